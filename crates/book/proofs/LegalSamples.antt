@@ -1,0 +1,131 @@
+-- A legal history, and some that are not.
+use Rattle.std.proofs.Common.{◌≡◌, ◌<◌, ◌≤◌, ℕ, zero, suc, List, [], ◌∷◌, ◌++◌, length, refl, codes, arith, slice_index_or}
+use Rattle.row.specs.Cells.{text, Cells}
+use Rattle.plan.specs.Recipes.{recipe_n}
+use Rattle.book.specs.Logs.{inserts, deletes}
+use Rattle.book.specs.Places.{source_at}
+use Rattle.book.specs.Histories.{Item, write, read, fence, Lengths, Floors, Place, len_at, log_of}
+use Rattle.book.specs.Cuts.{IsAtMost, IsWithin}
+use Rattle.book.specs.Legal.{limit, IsPast, EachShard, Allows, IsLegal}
+use Rattle.book.proofs.Samples.{n}
+use Rattle.book.proofs.HistoryLaws.{at_most_none}
+
+abbrev pub upto : ℕ → Lengths
+upto k = (k ∷ []) ∷ []
+
+abbrev pub floored : ℕ → Floors
+floored k = (upto k ∷ []) ∷ []
+
+abbrev pub note : Cells
+note = n 1 ∷ n 7 ∷ text (codes "a") ∷ []
+
+abbrev pub first_write : Item
+first_write = write 0 0 0 (inserts note)
+
+abbrev pub first_place : Place
+first_place = record { base = 0; index = 0 }
+
+abbrev pub history : List Item
+history = fence 0 [] (floored 0) ∷ first_write ∷ fence 0 (first_place ∷ []) (floored 1) ∷ read 0 0 (n 7) (note ∷ []) (upto 1) ∷ []
+
+-- ---- the pieces of a proof that it is legal
+one_shard : (P : ℕ → ℕ → Type 0) → P 0 0 → EachShard recipe_n P
+one_shard P h zero zero li lj = h
+one_shard P h zero (suc j) li lj = let e : suc j < 1 = lj in absurd (omega arith)
+one_shard P h (suc i) j li lj = let e : suc i < 1 = li in absurd (omega arith)
+
+upto_lines : (k s : ℕ) → s < 1 → length (slice_index_or (upto k) s []) ≡ 1
+upto_lines k zero ls = refl
+upto_lines k (suc s) ls = absurd (omega arith)
+
+upto_lengths : (k : ℕ) (h : List Item) → k ≤ length (log_of 0 h) → (s j : ℕ) → len_at (upto k) s j ≤ length (log_of (source_at recipe_n j) h)
+upto_lengths k h le zero zero = le
+upto_lengths k h le zero (suc j) = omega arith
+upto_lengths k h le (suc s) j = omega arith
+
+upto_within : (k : ℕ) (h : List Item) → k ≤ length (log_of 0 h) → IsWithin recipe_n h (upto k)
+upto_within k h le = record { stages = refl; lines = upto_lines k; lengths = upto_lengths k h le }
+
+upto_most : (a b : ℕ) → a ≤ b → IsAtMost (upto a) (upto b)
+upto_most a b le zero zero = le
+upto_most a b le zero (suc j) = omega arith
+upto_most a b le (suc s) j = omega arith
+
+past_first : IsPast recipe_n (upto 1) first_place
+past_first zero zero ls lj e = omega arith
+past_first zero (suc j) ls lj e = let l : suc j < 1 = lj in absurd (omega arith)
+past_first (suc s) j ls lj e = let l : suc s < 1 = ls in absurd (omega arith)
+
+abbrev after_write : List Item
+after_write = fence 0 [] (floored 0) ∷ first_write ∷ []
+
+abbrev after_fence : List Item
+after_fence = after_write ++ fence 0 (first_place ∷ []) (floored 1) ∷ []
+
+fence_first : Allows recipe_n 1 [] (fence 0 [] (floored 0))
+fence_first = record {
+  session = omega arith;
+  within = one_shard _ (upto_within 0 [] (omega arith));
+  floor = one_shard _ (at_most_none (upto 0));
+  past = one_shard _ tt;
+  written = tt;
+}
+
+write_first : Allows recipe_n 1 (fence 0 [] (floored 0) ∷ []) first_write
+write_first = record { base = omega arith; fits = refl; shard = refl; lawful = refl; room = (let r : 0 < limit = omega arith in r); number = tt }
+
+fence_second : Allows recipe_n 1 after_write (fence 0 (first_place ∷ []) (floored 1))
+fence_second = record {
+  session = omega arith;
+  within = one_shard _ (upto_within 1 after_write (let r : 1 ≤ 1 = omega arith in r));
+  floor = one_shard _ (upto_most 0 1 (omega arith));
+  past = one_shard _ (past_first, tt);
+  written = (record { source = 0; there = (let r : 0 < 1 = omega arith in r); base = refl; number = 0; wrote = refl }, tt);
+}
+
+read_first : Allows recipe_n 1 after_fence (read 0 0 (n 7) (note ∷ []) (upto 1))
+read_first = record {
+  session = omega arith;
+  view = (let r : 0 < 1 = omega arith in r);
+  within = upto_within 1 after_fence (let r : 1 ≤ 1 = omega arith in r);
+  floor = upto_most 1 1 (omega arith);
+  answers = refl;
+}
+
+pub history_legal : IsLegal recipe_n 1 history
+history_legal = (fence_first, (write_first, (fence_second, (read_first, tt))))
+
+-- ---- not legal after the fence
+-- a read below the floor
+pub not_below : Allows recipe_n 1 after_fence (read 0 0 (n 7) [] (upto 0)) → ⊥
+not_below a = let f : 1 ≤ 0 = a.floor 0 0 in absurd (omega arith)
+
+-- a read that leaves out a row
+pub not_less : Allows recipe_n 1 after_fence (read 0 0 (n 7) [] (upto 1)) → ⊥
+not_less a = absurd (cc (a.answers))
+
+-- a read past the log
+pub not_past : Allows recipe_n 1 after_fence (read 0 0 (n 7) (note ∷ []) (upto 2)) → ⊥
+not_past a = let f : 2 ≤ 1 = a.within.lengths 0 0 in absurd (omega arith)
+
+-- a second insert of the key
+pub not_twice : Allows recipe_n 1 after_fence (write 0 1 0 (inserts note)) → ⊥
+not_twice a = absurd (cc (a.lawful))
+
+-- a write under an old number
+pub not_again : Allows recipe_n 1 after_fence (write 0 0 0 (deletes (n 1))) → ⊥
+not_again a = let f : 0 < 0 = a.number.0 refl in absurd (omega arith)
+
+-- a fence that misses an own write
+pub not_missed : Allows recipe_n 1 after_write (fence 0 (first_place ∷ []) (floored 0)) → ⊥
+not_missed a = let f : 0 < 0 = (a.past 0 0 (let r : 0 < 1 = omega arith in r) (let r : 0 < 1 = omega arith in r)).0 0 0 (omega arith) (let r : 0 < 1 = omega arith in r) refl in absurd (omega arith)
+
+-- another session has no floor yet
+pub other_session : Allows recipe_n 2 after_fence (read 1 0 (n 7) [] (upto 0))
+other_session = record {
+  session = omega arith;
+  view = (let r : 0 < 1 = omega arith in r);
+  within = upto_within 0 after_fence (omega arith);
+  floor = at_most_none (upto 0);
+  answers = refl;
+}

@@ -1,0 +1,32 @@
+//! Entries of a log.
+ghost use Rattle.std.specs.Prelude.{◌≡◌, ◌<◌, length};
+ghost use Rattle.row.specs.Cells.{datum_of, cell_at};
+ghost use Rattle.book.specs.Logs.{fits, key_of};
+ghost use Rattle.book.specs.Entries.{change_of};
+
+use plan::table::Table;
+use row::row::Row;
+use row::value::Value;
+
+/// An entry of a log: a row that comes, the key of a row that goes, or a row in place of the one
+/// of the same key.
+#[derive(Drop)]
+pub enum Entry {
+    Insert(Row),
+    Delete(Value),
+    Update(Row),
+}
+
+impl Entry {
+    /// Whether the entry's row is one of the table, or its key a cell of the key column.
+    pub fn fits(&self, table: &Table) -> bool
+        requires { table.now.key < length table.now.columns }
+        ensures { result ≡ fits table.now (change_of self.now) }
+    {
+        match self {
+            Entry::Insert(row) => table.takes(row),
+            Entry::Delete(key) => table.takes_key(key),
+            Entry::Update(row) => table.takes(row),
+        }
+    }
+}

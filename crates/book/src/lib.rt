@@ -1,0 +1,4 @@
+//! The history: entries, logs, cuts, and what is legal.
+#![tactic(auto)]
+
+pub mod entry;

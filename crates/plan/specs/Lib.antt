@@ -1,0 +1,5 @@
+pub mod Layouts
+pub mod Kinds
+pub mod Outputs
+pub mod Profile
+pub mod Recipes

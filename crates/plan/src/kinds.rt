@@ -1,0 +1,59 @@
+//! Words of a plan that hold numbers alone.
+ghost use Rattle.std.specs.Prelude.{◌≡◌};
+ghost use Rattle.row.specs.Cells.{datum_of};
+ghost use Rattle.plan.specs.Kinds.{is_cell, is_plain};
+
+use row::value::Value;
+
+/// The kind of a column's cells.
+#[derive(Clone, Copy, PartialEq, Eq, Debug)]
+pub enum Kind {
+    Int,
+    Text,
+}
+
+impl Kind {
+    /// Whether the value is a cell of the kind: a number of 64 bits, or a text of at most 255
+    /// bytes from 0x20 to 0x7E. A text costs a look at each of its first 255 bytes.
+    pub fn takes(self, value: &Value) -> bool
+        ensures { result ≡ is_cell self (datum_of value.now) }
+    {
+        match (self, value) {
+            (Kind::Int, Value::Int(n)) => -9223372036854775808 <= *n && *n <= 9223372036854775807,
+            (Kind::Text, Value::Text(t)) => is_plain(t.as_bytes()),
+            _ => false,
+        }
+    }
+}
+
+fn is_plain(bytes: &[u8]) -> bool
+    ensures { result ≡ is_plain bytes.now }
+{
+    if bytes.len() > 255 {
+        return false;
+    }
+    for b in bytes {
+        if *b < 32 || 126 < *b {
+            return false;
+        }
+    }
+    true
+}
+
+/// How a cell is compared with a condition's value.
+#[derive(Clone, Copy, PartialEq, Eq, Debug)]
+pub enum Op {
+    Equal,
+    NotEqual,
+    Less,
+    AtMost,
+    Greater,
+    AtLeast,
+}
+
+/// What is told of a group of rows: their number, or the sum of a column of theirs.
+#[derive(Clone, Copy, PartialEq, Eq, Debug)]
+pub enum Aggregate {
+    Count,
+    Sum(usize),
+}

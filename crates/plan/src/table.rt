@@ -1,0 +1,149 @@
+//! Tables and their columns.
+ghost use Rattle.std.specs.Prelude.{◌≡◌, ◌<◌, length, string_bytes, slice_index_or, slice_get, IfOk};
+ghost use Rattle.std.specs.Option.{option_map};
+ghost use Rattle.row.specs.Cells.{datum_of};
+ghost use Rattle.plan.specs.Kinds.{is_cell, is_row};
+ghost use Rattle.plan.specs.Layouts.{column_at, kind_at};
+
+use crate::kinds::Kind;
+use row::row::Row;
+use row::value::Value;
+use std::alloc::{AllocError, Global};
+use std::marker::Model;
+
+/// A column: its name and the kind of its cells.
+#[derive(Drop)]
+pub struct Column {
+    name: String,
+    kind: Kind,
+}
+
+impl Model for Column {
+    ghost use Rattle.std.specs.Prelude.{string_bytes};
+    ghost use Rattle.plan.specs.Layouts.{ColumnLayout};
+
+    ghost Value = { ColumnLayout };
+
+    ghost view = { λ c. record { name = string_bytes c.name; kind = c.kind } };
+}
+
+impl Column {
+    pub(crate) fn new(alloc: Global, name: &str, kind: Kind) -> Result<Column, AllocError>
+        ensures { IfOk result (λ c. c ≡ record { name = name.now; kind = kind }) }
+    {
+        Ok(Column {
+            name: String::from_str(alloc, name)?,
+            kind,
+        })
+    }
+
+    /// Whether the value is a cell of the column.
+    pub fn takes(&self, value: &Value) -> bool
+        ensures { result ≡ is_cell self.now.kind (datum_of value.now) }
+    {
+        self.kind.takes(value)
+    }
+
+    fn kind(&self) -> Kind
+        ensures { result ≡ self.now.kind }
+    {
+        self.kind
+    }
+}
+
+/// A table: its name, its shards, the place of its key column, and its columns.
+#[derive(Drop)]
+pub struct Table {
+    name: String,
+    shards: usize,
+    key: usize,
+    columns: Vec<Column>,
+}
+
+impl Model for Table {
+    ghost use Rattle.std.specs.Prelude.{string_bytes};
+    ghost use Rattle.plan.specs.Layouts.{TableLayout};
+
+    ghost Value = { TableLayout };
+
+    ghost view = { λ t. record { name = string_bytes t.name; shards = t.shards; key = t.key; columns = t.columns.items } };
+}
+
+impl Table {
+    pub(crate) fn new(name: String, shards: usize, key: usize, columns: Vec<Column>) -> Table
+        ensures { result ≡ record { name = string_bytes name; shards = shards; key = key; columns = columns.items } }
+    {
+        Table {
+            name,
+            shards,
+            key,
+            columns,
+        }
+    }
+
+    /// The table's name.
+    pub fn name(&self) -> &str
+        ensures { result.now ≡ self.now.name }
+    {
+        self.name.as_str()
+    }
+
+    /// How many shards the table has.
+    pub fn shards(&self) -> usize
+        ensures { result ≡ self.now.shards }
+    {
+        self.shards
+    }
+
+    /// The place of the key column.
+    pub fn key(&self) -> usize
+        ensures { result ≡ self.now.key }
+    {
+        self.key
+    }
+
+    /// How many columns the table has.
+    pub fn width(&self) -> usize
+        ensures { result ≡ length self.now.columns }
+    {
+        self.columns.len()
+    }
+
+    /// The kind of a column's cells, if the table has the column.
+    pub fn kind(&self, column: usize) -> Option<Kind>
+        ensures { result ≡ kind_at self.now column }
+    {
+        let column = self.columns.get(column)?;
+        Some(column.kind())
+    }
+
+    /// Whether the row has one cell of its kind for each column.
+    pub fn takes(&self, row: &Row) -> bool
+        ensures { result ≡ is_row self.now.columns row.now }
+    {
+        if row.width() != self.width() {
+            return false;
+        }
+        all_take(self.columns.as_slice(), row)
+    }
+
+    /// Whether the value is a cell of the key column.
+    pub fn takes_key(&self, value: &Value) -> bool
+        requires { self.now.key < length self.now.columns }
+        ensures { result ≡ is_cell (column_at self.now self.now.key).kind (datum_of value.now) }
+    {
+        self.columns[self.key].takes(value)
+    }
+}
+
+fn all_take(columns: &[Column], row: &Row) -> bool
+    requires { length row.now ≡ length columns.now }
+    ensures { result ≡ is_row columns.now row.now }
+{
+    for (at, column) in columns.iter().enumerate() {
+        if !column.takes(row.cell(at)) {
+            return false;
+        }
+    }
+    true
+}

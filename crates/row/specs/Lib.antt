@@ -1,0 +1,5 @@
+pub mod Cells
+pub mod Bags
+pub mod Printed
+pub mod Refusals
+pub mod CellOrder

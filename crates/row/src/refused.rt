@@ -1,0 +1,100 @@
+//! Why a call was refused.
+ghost use Rattle.std.specs.Prelude.{◌≡◌};
+ghost use Rattle.row.specs.Refusals.{number_of, name_of};
+
+use thiserror::Error;
+
+/// Why a call was refused. A refused call has changed nothing that its own page does not name.
+#[derive(Clone, Copy, PartialEq, Eq, Debug, Error)]
+pub enum Refused {
+    #[error("no memory")]
+    NoMemory,
+    #[error("there is no such table")]
+    UnknownTable,
+    #[error("the row does not fit its table")]
+    BadRow,
+    #[error("a row with this key is there already")]
+    Duplicate,
+    #[error("there is no row with this key")]
+    Absent,
+    #[error("the log has its limit of entries")]
+    LogFull,
+    #[error("there is no such view")]
+    UnknownView,
+    #[error("the key is no cell of the key column")]
+    BadKey,
+    #[error("the answer was missing at each try")]
+    Busy,
+    #[error("a part that the call needs has stopped")]
+    Stopped,
+    #[error("the session was used elsewhere, or its call numbers are spent")]
+    Stolen,
+    #[error("no session is left")]
+    NoSessionLeft,
+    #[error("an acknowledgement was shorter than what the session had seen")]
+    Behind,
+    #[error("a packet came out of turn")]
+    Gap,
+    #[error("the plan has no such place")]
+    UnknownPlace,
+    #[error("the line of the script is of no known form")]
+    BadScript,
+    #[error("the file cannot be read")]
+    CannotRead,
+    #[error("the output cannot be written")]
+    CannotWrite,
+}
+
+impl Refused {
+    /// The number that users see.
+    pub fn number(self) -> u8
+        ensures { result ≡ number_of self }
+    {
+        match self {
+            Refused::NoMemory => 1,
+            Refused::UnknownTable => 2,
+            Refused::BadRow => 3,
+            Refused::Duplicate => 4,
+            Refused::Absent => 5,
+            Refused::LogFull => 6,
+            Refused::UnknownView => 7,
+            Refused::BadKey => 8,
+            Refused::Busy => 9,
+            Refused::Stopped => 10,
+            Refused::Stolen => 11,
+            Refused::NoSessionLeft => 12,
+            Refused::Behind => 13,
+            Refused::Gap => 14,
+            Refused::UnknownPlace => 15,
+            Refused::BadScript => 30,
+            Refused::CannotRead => 31,
+            Refused::CannotWrite => 32,
+        }
+    }
+
+    /// The name that users see.
+    pub fn name(self) -> &'static str
+        ensures { result.now ≡ name_of self }
+    {
+        match self {
+            Refused::NoMemory => "NoMemory",
+            Refused::UnknownTable => "UnknownTable",
+            Refused::BadRow => "BadRow",
+            Refused::Duplicate => "Duplicate",
+            Refused::Absent => "Absent",
+            Refused::LogFull => "LogFull",
+            Refused::UnknownView => "UnknownView",
+            Refused::BadKey => "BadKey",
+            Refused::Busy => "Busy",
+            Refused::Stopped => "Stopped",
+            Refused::Stolen => "Stolen",
+            Refused::NoSessionLeft => "NoSessionLeft",
+            Refused::Behind => "Behind",
+            Refused::Gap => "Gap",
+            Refused::UnknownPlace => "UnknownPlace",
+            Refused::BadScript => "BadScript",
+            Refused::CannotRead => "CannotRead",
+            Refused::CannotWrite => "CannotWrite",
+        }
+    }
+}
