@@ -1,10 +1,12 @@
-//! Why a call was refused.
+//! The reasons for which a call is refused, with the number and the name that users see.
 ghost use Rattle.std.specs.Prelude.{◌≡◌};
 ghost use Rattle.row.specs.Refusals.{number_of, name_of};
+ghost use Rattle.row.specs.declared.refused.Refused.TheVariants.{NoMemory};
 
+use std::alloc::{AllocError, AllocFailed};
 use thiserror::Error;
 
-/// Why a call was refused. A refused call has changed nothing that its own page does not name.
+/// Why a call was refused. What a refusal leaves is said at the call that gives it.
 #[derive(Clone, Copy, PartialEq, Eq, Debug, Error)]
 pub enum Refused {
     #[error("no memory")]
@@ -96,5 +98,21 @@ impl Refused {
             Refused::CannotRead => "CannotRead",
             Refused::CannotWrite => "CannotWrite",
         }
+    }
+}
+
+impl From<AllocError> for Refused {
+    ghost from_gives = { λ _ e. e ≡ NoMemory };
+
+    fn from(_error: AllocError) -> Refused {
+        Refused::NoMemory
+    }
+}
+
+impl<T: Drop> From<AllocFailed<T>> for Refused {
+    ghost from_gives = { λ _ e. e ≡ NoMemory };
+
+    fn from(_error: AllocFailed<T>) -> Refused {
+        Refused::NoMemory
     }
 }

@@ -1,0 +1,72 @@
+-- What is written piece by piece is what is to be printed.
+use Rattle.std.proofs.Common.{◌/◌, inl, inr, ◌≡◌, ◌≢◌, ℕ, ◌+◌, ◌≤◌, ◌==◌, ◌||◌, not, Bool, true, false, cond, List, [], ◌∷◌, ◌++◌, length, map, flat_map, refl, ap, sym, ◌∙◌, arith, append_assoc, append-nil}
+use Rattle.std.specs.List.{list_all}
+use Rattle.std.proofs.lemmas.List.Concat.{flat_map-cons}
+use Rattle.std.proofs.lemmas.Str.{encode_ascii}
+use Rattle.std.proofs.lemmas.Grind.{common_steps}
+use Rattle.std.proofs.lemmas.Bool.{cases_lt}
+use lib.Utf8.{encode, next}
+use lib.Dec.{ltb}
+use Rattle.row.specs.Cells.{Datum}
+use Rattle.row.specs.Printed.{is_escaped, escaped, is_bare, printed, printed_row}
+
+pub is_bare_some : (bs : List ℕ) → length bs ≢ 0 → is_bare bs ≡ list_all (λ c. not (c == 32 || is_escaped c)) bs
+is_bare_some [] some = absurd (some refl)
+is_bare_some (b ∷ bs) some = refl
+
+pub escaped-append : (xs ys : List ℕ) → escaped (xs ++ ys) ≡ escaped xs ++ escaped ys
+escaped-append [] ys = refl
+escaped-append (x ∷ xs) ys = step (is_escaped x) (escaped-append xs ys)
+  where
+    step : (b : Bool) → escaped (xs ++ ys) ≡ escaped xs ++ escaped ys
+        → cond b (92 ∷ x ∷ escaped (xs ++ ys)) (x ∷ escaped (xs ++ ys)) ≡ cond b (92 ∷ x ∷ escaped xs) (x ∷ escaped xs) ++ escaped ys
+    step true e = rw e refl
+    step false e = rw e refl
+
+high_apart : (b : ℕ) → 128 ≤ b → is_escaped b ≡ false
+high_apart b high = grind (arith, common_steps)
+
+escaped_past : (b : ℕ) (bs : List ℕ) → 128 ≤ b → escaped (b ∷ bs) ≡ b ∷ escaped bs
+escaped_past b bs high = rw (high_apart b high) refl
+
+-- a character past ASCII stands as it is
+escaped_wide : (c : ℕ) → 128 ≤ c → escaped (encode c) ≡ encode c
+unfolding encode
+escaped_wide c high = step (ltb c 128) (ltb c 2048) (ltb c 65536) refl
+  where
+    step : (x y z : Bool) → ltb c 128 ≡ x
+        → escaped (cond x (c ∷ []) (cond y ((192 + c / 64) ∷ next c ∷ []) (cond z ((224 + c / 4096) ∷ next (c / 64) ∷ next c ∷ []) ((240 + c / 262144) ∷ next (c / 4096) ∷ next (c / 64) ∷ next c ∷ []))))
+        ≡ cond x (c ∷ []) (cond y ((192 + c / 64) ∷ next c ∷ []) (cond z ((224 + c / 4096) ∷ next (c / 64) ∷ next c ∷ []) ((240 + c / 262144) ∷ next (c / 4096) ∷ next (c / 64) ∷ next c ∷ [])))
+    step true y z e = escaped_past c [] high
+    step false true z e = rw (escaped_past (192 + c / 64) (next c ∷ []) (omega arith), escaped_past (next c) [] (omega arith)) refl
+    step false false true e = rw (escaped_past (224 + c / 4096) (next (c / 64) ∷ next c ∷ []) (omega arith), escaped_past (next (c / 64)) (next c ∷ []) (omega arith), escaped_past (next c) [] (omega arith)) refl
+    step false false false e =
+        rw (escaped_past (240 + c / 262144) (next (c / 4096) ∷ next (c / 64) ∷ next c ∷ []) (omega arith), escaped_past (next (c / 4096)) (next (c / 64) ∷ next c ∷ []) (omega arith), escaped_past (next (c / 64)) (next c ∷ []) (omega arith), escaped_past (next c) [] (omega arith)) refl
+
+-- a character after a backslash where it takes one
+pub escaped_char : (c : ℕ) → escaped (encode c) ≡ cond (is_escaped c) (92 ∷ encode c) (encode c)
+escaped_char c = elim (cases_lt c 128) [
+  | inl small ↦ rw (encode_ascii c small) refl
+  | inr high ↦ rw (high_apart c high) (escaped_wide c high)
+]
+
+pub escaped_marked : (c : ℕ) → is_escaped c ≡ true → (92 ∷ []) ++ encode c ≡ escaped (encode c)
+escaped_marked c e = rw (escaped_char c, e) refl
+
+pub escaped_bare : (c : ℕ) → is_escaped c ≡ false → encode c ≡ escaped (encode c)
+escaped_bare c e = rw (escaped_char c, e) refl
+
+-- a loop's step over the characters of a text, of which rest is left
+pub escaped_more : (done rest next bytes : List ℕ) (c : ℕ) → rest ≡ encode c ++ next → done ++ escaped rest ≡ escaped bytes → (done ++ escaped (encode c)) ++ escaped next ≡ escaped bytes
+escaped_more done rest next bytes c e h = rw (append_assoc, ← escaped-append (encode c) next, ← e) h
+
+-- and its end
+pub escaped_done : (done rest bytes : List ℕ) → length rest ≡ 0 → done ++ escaped rest ≡ escaped bytes → done ≡ escaped bytes
+escaped_done done [] bytes none h = sym (append-nil done) ∙ h
+escaped_done done (x ∷ rest) bytes none h = absurd (omega arith)
+
+-- a row is its first value, and each other after a space
+pub printed_row_by_words : {X : Type 0} (f : X → Datum) (x : X) (xs : List X) → printed (f x) ++ flat_map (λ y. 32 ∷ printed (f y)) xs ≡ printed_row (map f (x ∷ xs))
+printed_row_by_words f x [] = append-nil (printed (f x))
+printed_row_by_words f x (y ∷ ys) =
+    rw (flat_map-cons (λ y. 32 ∷ printed (f y)) y ys) (ap (λ t. printed (f x) ++ 32 ∷ t) (printed_row_by_words f y ys))

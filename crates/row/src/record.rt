@@ -1,0 +1,36 @@
+//! A change of a bag: one row more, or one row less.
+ghost use Rattle.std.specs.Prelude.{◌≡◌, IfOk};
+
+use crate::row::Row;
+use std::alloc::{AllocError, Global};
+
+/// Whether a change adds its row or takes it away.
+#[derive(Clone, Copy, Debug, PartialEq, Eq)]
+pub enum Sign {
+    /// One more of the row.
+    Plus,
+    /// One less of the row.
+    Minus,
+}
+
+/// A row with a sign: one change of a bag of rows.
+#[derive(Debug, Drop)]
+pub struct Record {
+    /// The row that the change adds or takes away.
+    pub row: Row,
+    /// Which of the two it does.
+    pub sign: Sign,
+}
+
+impl Record {
+    /// The same record in memory of its own. Fails only for want of memory. Cost: the length
+    /// of the row and of its texts.
+    pub fn copied(&self, alloc: Global) -> Result<Record, AllocError>
+        ensures { IfOk result (λ r. r ≡ self.now) }
+    {
+        Ok(Record {
+            row: self.row.copied(alloc)?,
+            sign: self.sign,
+        })
+    }
+}
