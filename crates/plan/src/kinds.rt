@@ -2,8 +2,10 @@
 ghost use Rattle.std.specs.Prelude.{◌≡◌};
 ghost use Rattle.row.specs.Cells.{datum_of};
 ghost use Rattle.plan.specs.Kinds.{is_cell, is_plain};
+ghost use Rattle.plan.specs.Outputs.{compares};
 
 use row::value::Value;
+use std::cmp::Ordering;
 
 /// The kind of a column's cells.
 #[derive(Clone, Copy, PartialEq, Eq, Debug)]
@@ -49,6 +51,22 @@ pub enum Op {
     AtMost,
     Greater,
     AtLeast,
+}
+
+impl Op {
+    /// Whether a cell that stands so to the condition's value passes.
+    pub fn compares(self, order: Ordering) -> bool
+        ensures { result ≡ compares self order }
+    {
+        match self {
+            Op::Equal => order.is_eq(),
+            Op::NotEqual => !order.is_eq(),
+            Op::Less => order.is_lt(),
+            Op::AtMost => order.is_le(),
+            Op::Greater => order.is_gt(),
+            Op::AtLeast => order.is_ge(),
+        }
+    }
 }
 
 /// What is told of a group of rows: their number, or the sum of a column of theirs.

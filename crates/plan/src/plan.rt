@@ -1,6 +1,7 @@
 //! A checked plan, which contracts see as its layout.
-ghost use Rattle.std.specs.Prelude.{◌≡◌, ◌<◌, IfOk, length, string_bytes};
-ghost use Rattle.plan.specs.Layouts.{table_at, table_named};
+ghost use Rattle.std.specs.Prelude.{◌≡◌, ◌<◌, IfOk, IfSome, length, string_bytes};
+ghost use Rattle.std.specs.Option.{option_copied};
+ghost use Rattle.plan.specs.Layouts.{table_at, table_named, view_at, view_named};
 ghost use Rattle.plan.specs.Recipes.{recipe_n};
 
 use crate::kinds::{Aggregate, Kind};
@@ -26,6 +27,41 @@ impl Model for ViewPlan {
     ghost Value = { ViewLayout };
 
     ghost view = { λ v. record { name = string_bytes v.name; key = v.key; shards = v.shards; cap = v.cap } };
+}
+
+impl ViewPlan {
+    /// A view of this name, keyed by the column at the place `key`.
+    pub fn new(name: String, key: usize, shards: usize, cap: usize) -> ViewPlan
+        ensures { result ≡ record { name = string_bytes name; key = key; shards = shards; cap = cap } }
+    {
+        ViewPlan {
+            name,
+            key,
+            shards,
+            cap,
+        }
+    }
+
+    /// The view's name.
+    pub fn name(&self) -> &str
+        ensures { result.now ≡ self.now.name }
+    {
+        self.name.as_str()
+    }
+
+    /// The column of the left table that keys the view.
+    pub fn key(&self) -> usize
+        ensures { result ≡ self.now.key }
+    {
+        self.key
+    }
+
+    /// How many shards the view has.
+    pub fn shards(&self) -> usize
+        ensures { result ≡ self.now.shards }
+    {
+        self.shards
+    }
 }
 
 /// A checked plan. Its type keeps the profile: between 1 and 8 tables of 1 to 16 columns and 1 to
@@ -66,12 +102,7 @@ impl Plan {
         let mut tables = Vec::new(alloc);
         tables.push(Table::new(String::from_str(alloc, "notes")?, 1, 0, columns))?;
         let mut views = Vec::new(alloc);
-        views.push(ViewPlan {
-            name: String::from_str(alloc, "by_author")?,
-            key: 1,
-            shards: 1,
-            cap: 4,
-        })?;
+        views.push(ViewPlan::new(String::from_str(alloc, "by_author")?, 1, 1, 4))?;
         Ok(Plan {
             tables,
             stages: 1,
@@ -85,7 +116,8 @@ impl Plan {
 
     /// The place of the table with this name. Costs a look at each name.
     pub fn table_named(&self, name: &str) -> Option<usize>
-        ensures { result ≡ table_named self.now name.now }
+        ensures place { result ≡ table_named self.now name.now }
+        ensures there { IfSome result (λ table. table < length self.now.tables) }
     {
         self.tables.iter().position(|table| table.name() == name)
     }
@@ -100,8 +132,60 @@ impl Plan {
     /// The table at this place.
     pub fn table(&self, table: usize) -> &Table
         requires { table < length self.now.tables }
-        ensures { result.now ≡ table_at self.now table }
+        ensures table { result.now ≡ table_at self.now table }
+        ensures key { result.now.key < length result.now.columns }
     {
         &self.tables[table]
+    }
+
+    /// How many shards the stage has.
+    pub fn stages(&self) -> usize
+        ensures { result ≡ self.now.stages }
+    {
+        self.stages
+    }
+
+    /// The left side of the stage.
+    pub fn left(&self) -> &Side
+        ensures { result.now ≡ self.now.left }
+    {
+        &self.left
+    }
+
+    /// The right side of the stage, if it has one.
+    pub fn right(&self) -> Option<&Side>
+        ensures { option_copied result ≡ self.now.right }
+    {
+        self.right.as_ref()
+    }
+
+    /// What is told of partners or of a group, if anything.
+    pub fn aggregate(&self) -> Option<Aggregate>
+        ensures { result ≡ self.now.aggregate }
+    {
+        self.aggregate
+    }
+
+    /// The place of the view with this name. Costs a look at each name.
+    pub fn view_named(&self, name: &str) -> Option<usize>
+        ensures place { result ≡ view_named self.now name.now }
+        ensures there { IfSome result (λ view. view < length self.now.views) }
+    {
+        self.views.iter().position(|view| view.name() == name)
+    }
+
+    /// How many views there are.
+    pub fn views(&self) -> usize
+        ensures { result ≡ length self.now.views }
+    {
+        self.views.len()
+    }
+
+    /// The view at this place.
+    pub fn view(&self, view: usize) -> &ViewPlan
+        requires { view < length self.now.views }
+        ensures { result.now ≡ view_at self.now view }
+    {
+        &self.views[view]
     }
 }

@@ -1,6 +1,6 @@
 //! Tables and their columns.
 ghost use Rattle.std.specs.Prelude.{◌≡◌, ◌<◌, length, string_bytes, slice_index_or, slice_get, IfOk};
-ghost use Rattle.std.specs.Option.{option_map};
+ghost use Rattle.std.specs.Bool.{OnTrue};
 ghost use Rattle.row.specs.Cells.{datum_of};
 ghost use Rattle.plan.specs.Kinds.{is_cell, is_row};
 ghost use Rattle.plan.specs.Layouts.{column_at, kind_at};
@@ -28,7 +28,8 @@ impl Model for Column {
 }
 
 impl Column {
-    pub(crate) fn new(alloc: Global, name: &str, kind: Kind) -> Result<Column, AllocError>
+    /// A column of this name. Copies the name.
+    pub fn new(alloc: Global, name: &str, kind: Kind) -> Result<Column, AllocError>
         ensures { IfOk result (λ c. c ≡ record { name = name.now; kind = kind }) }
     {
         Ok(Column {
@@ -70,7 +71,8 @@ impl Model for Table {
 }
 
 impl Table {
-    pub(crate) fn new(name: String, shards: usize, key: usize, columns: Vec<Column>) -> Table
+    /// A table of these columns, keyed by the one at the place `key`.
+    pub fn new(name: String, shards: usize, key: usize, columns: Vec<Column>) -> Table
         ensures { result ≡ record { name = string_bytes name; shards = shards; key = key; columns = columns.items } }
     {
         Table {
@@ -119,7 +121,8 @@ impl Table {
 
     /// Whether the row has one cell of its kind for each column.
     pub fn takes(&self, row: &Row) -> bool
-        ensures { result ≡ is_row self.now.columns row.now }
+        ensures fits { result ≡ is_row self.now.columns row.now }
+        ensures width { OnTrue result (length row.now ≡ length self.now.columns) }
     {
         if row.width() != self.width() {
             return false;
