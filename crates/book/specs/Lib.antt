@@ -6,3 +6,4 @@ pub mod Histories
 pub mod Cuts
 pub mod Refusals
 pub mod Legal
+pub mod Books

@@ -1,5 +1,5 @@
 //! Entries of a log.
-ghost use Rattle.std.specs.Prelude.{◌≡◌, ◌<◌, length};
+ghost use Rattle.std.specs.Prelude.{◌≡◌, ◌<◌, length, IfOk};
 ghost use Rattle.row.specs.Cells.{datum_of, cell_at};
 ghost use Rattle.book.specs.Logs.{fits, key_of};
 ghost use Rattle.book.specs.Entries.{change_of};
@@ -7,6 +7,7 @@ ghost use Rattle.book.specs.Entries.{change_of};
 use plan::table::Table;
 use row::row::Row;
 use row::value::Value;
+use std::alloc::{AllocError, Global};
 
 /// An entry of a log: a row that comes, the key of a row that goes, or a row in place of the one
 /// of the same key.
@@ -27,6 +28,17 @@ impl Entry {
             Entry::Insert(row) => table.takes(row),
             Entry::Delete(key) => table.takes_key(key),
             Entry::Update(row) => table.takes(row),
+        }
+    }
+
+    /// A second entry that is equal. Copies its row or key.
+    pub fn copied(&self, alloc: Global) -> Result<Entry, AllocError>
+        ensures { IfOk result (λ e. change_of e ≡ change_of self.now) }
+    {
+        match self {
+            Entry::Insert(row) => Ok(Entry::Insert(row.copied(alloc)?)),
+            Entry::Delete(key) => Ok(Entry::Delete(key.copied(alloc)?)),
+            Entry::Update(row) => Ok(Entry::Update(row.copied(alloc)?)),
         }
     }
 }

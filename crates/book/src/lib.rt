@@ -1,4 +1,5 @@
 //! The history: entries, logs, cuts, and what is legal.
 #![tactic(auto)]
 
+pub mod book;
 pub mod entry;
