@@ -1,0 +1,21 @@
+use Rattle.std.proofs.Common.{ap, sym, ◌∙◌}
+use Rattle.std.specs.Option.{option_map}
+use Rattle.row.specs.Cells.{datum_of}
+use Rattle.base.proofs.Stores.{absent_lookup, ready_is, stored_inserted, inserted_rows, shard_is}
+use Rattle.base.proofs.shard.BaseShard.insert.Goals as goal
+
+pub put-requires-clause-absent : goal.put-requires-clause-absent
+put-requires-clause-absent c =
+    let is = sym c.take.ensures.value ∙ c.in-Some.is in
+    absent_lookup c.self.inside.key_column c.in-Some.key _ c.self.inside.rows.entries c.self.invariant.keyed
+    (ready_is c.self.inside.ready c.in-Some.key _ is (rw (← c.self.view_is) at c.requires.room)) (rw (← c.self.view_is) at c.requires.absent)
+
+pub invariant_of-self : goal.invariant_of-self
+invariant_of-self c =
+    let is = sym c.take.ensures.value ∙ c.in-Some.is in
+    stored_inserted c.self.inside.key_column c.self.inside.rows c.put.new.rows c.in-Some.key c.args.row c.self.inside.ready c.take.new.self c.put.ensures.entries c.put.ensures.unique
+    (rw (← c.self.view_is) at c.requires.key) (ready_is c.self.inside.ready c.in-Some.key _ is (rw (← c.self.view_is) at c.requires.room)) c.self.invariant c.take.ensures.after
+
+pub returns-in-Some : goal.returns-in-Some
+returns-in-Some c =
+    rw (← c.self.view_is) (shard_is _ _ _ _ _ _ _ (inserted_rows c.self.inside.key_column c.in-Some.key c.args.row c.self.inside.rows.entries c.put.new.rows.entries c.put.ensures.entries) (ap (option_map datum_of) c.take.ensures.after))

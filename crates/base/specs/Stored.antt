@@ -1,0 +1,24 @@
+-- How a base shard stores its rows.
+use Rattle.std.specs.Prelude.{◌≡◌, ℕ, ◌<◌, Bool, All, List, Option, Some, IfSome, slice_get}
+use Rattle.std.specs.HashMap.{HashMap, IsUnique, spare}
+use Rattle.row.specs.Cells.{Cells, datum_of}
+use Rattle.row.specs.declared.value.Value.{Value}
+use Rattle.row.specs.contracts.value.ValuePartialEq.TheImpl.{eq-value}
+
+-- what the code's `==` answers for two values
+abbrev pub equal : Value → Value → Bool
+equal = eq-value.it
+
+-- the row has its key in the key column
+abbrev pub IsKeyed : ℕ → Value × Cells → Type 0
+IsKeyed key entry = slice_get entry.1 key ≡ Some (datum_of entry.0)
+
+-- so does each row
+abbrev pub AreKeyed : ℕ → List (Value × Cells) → Type 0
+AreKeyed key entries = All (IsKeyed key) entries
+
+-- each row is under its own key, no two keys are equal, and there is a place for the key that is ready
+pub record IsStored {S : Type 0} (key : ℕ) (rows : HashMap Value Cells S) (ready : Option Value) : Type 0 where
+  pub keyed : AreKeyed key rows.entries
+  pub unique : IsUnique equal rows
+  pub room : IfSome ready (λ _. 0 < spare rows)

@@ -1,0 +1,6 @@
+//! One base shard: the rows that a log leaves, found by their keys.
+#![tactic(auto)]
+
+pub mod shard;
+#[cfg(test)]
+mod tests;

@@ -1,0 +1,229 @@
+//! The rows of one shard of one table, by their keys.
+ghost use Rattle.std.specs.Prelude.{◌≡◌, ◌+◌, ◌++◌, ◌∷◌, [], List, ◌<◌, ◌↔◌, true, false, if◌then◌else◌, IsTrue, IsOk, OnOk, OnErr, IsOkUnless, Some, None, length};
+ghost use Rattle.std.specs.List.Sorted.{IsPermutation};
+ghost use Rattle.std.specs.HashMap.{get, spare, IsUnique};
+ghost use Rattle.row.specs.Cells.{datum_of, cell_at, row_cmp};
+ghost use Rattle.row.specs.Bags.{sorted};
+ghost use Rattle.book.specs.Logs.{Change, inserts, deletes, updates, changed, is_held, key_of};
+ghost use Rattle.book.specs.Refusals.{full, refusal, refusal_over};
+ghost use Rattle.book.specs.Entries.{change_of};
+ghost use Rattle.base.specs.Shards.{Shard, IsAt, HasKey, HasRoom, adds_row, room_after, verdict};
+ghost use Rattle.base.specs.Stored.{equal};
+
+use book::entry::Entry;
+use row::refused::Refused;
+use row::row::Row;
+use row::value::Value;
+use std::alloc::Global;
+use std::collections::HashMap;
+use std::marker::Model;
+
+/// The rows that a log leaves in one shard of one table, each found by its key in constant
+/// (expected) time.
+#[derive(Drop)]
+pub struct BaseShard {
+    key_column: usize,
+    limit: u64,
+    entry_count: u64,
+    rows: HashMap<Value, Row>,
+    ready: Option<Value>,
+}
+
+impl Model for BaseShard {
+    ghost use Rattle.std.specs.HashMap.{values};
+    ghost use Rattle.std.specs.Option.{option_map};
+    ghost use Rattle.row.specs.Cells.{datum_of, row_cmp};
+    ghost use Rattle.row.specs.Bags.{sorted};
+    ghost use Rattle.base.specs.Shards.{Shard};
+    ghost use Rattle.base.specs.Stored.{IsStored};
+
+    ghost Value = { Shard };
+
+    ghost view = { λ s. record { key = s.key_column; limit = s.limit; rows = sorted row_cmp (values s.rows); length = s.entry_count; room = option_map datum_of s.ready } };
+
+    ghost invariant = { λ s. IsStored s.key_column s.rows s.ready };
+}
+
+impl BaseShard {
+    /// A shard with no rows, for a table with this key column and a log of at most `limit`
+    /// entries. It takes no memory.
+    pub fn new(alloc: Global, key_column: usize, limit: u64) -> BaseShard
+        ensures empty { result ≡ record { key = key_column; limit = limit; rows = []; length = 0; room = None } }
+        ensures front { IsAt result [] }
+    {
+        BaseShard {
+            key_column,
+            limit,
+            entry_count: 0,
+            rows: HashMap::new(alloc),
+            ready: None,
+        }
+    }
+
+    /// How many entries the log has so far.
+    pub fn len(&self) -> u64
+        ensures { result ≡ self.now.length }
+    {
+        self.entry_count
+    }
+
+    /// The log has no entries yet.
+    pub fn is_empty(&self) -> bool
+        ensures { IsTrue result ↔ (self.now.length ≡ 0) }
+    {
+        self.len() == 0
+    }
+
+    /// Whether the log may take the entry next: `Duplicate` for an Insert of a key that is held,
+    /// `Absent` for a Delete or an Update of a key that is not, and then `LogFull` where the log
+    /// has its limit of entries. It changes nothing, takes no memory, and looks one key up.
+    pub fn check(&self, entry: &Entry) -> Result<(), Refused>
+        requires { HasKey self.now.key (change_of entry.now) }
+        ensures rows { result ≡ verdict (refusal_over self.now.key self.now.limit self.now.rows self.now.length (change_of entry.now)) }
+        ensures front { (front : List Change) → IsAt self.now front → result ≡ verdict (refusal self.now.key self.now.limit front (change_of entry.now)) }
+    {
+        match entry {
+            Entry::Insert(row) => {
+                if self.holds(row.cell(self.key_column)) {
+                    Err(Refused::Duplicate)
+                } else {
+                    self.check_limit()
+                }
+            }
+            Entry::Delete(key) => self.check_held(key),
+            Entry::Update(row) => self.check_held(row.cell(self.key_column)),
+        }
+    }
+
+    /// `Absent` for a key that is not held, then `LogFull`.
+    fn check_held(&self, key: &Value) -> Result<(), Refused>
+        ensures { result ≡ verdict (if is_held self.now.key self.now.rows (datum_of key.now) then full self.now.limit self.now.length else Some Refused.Absent) }
+    {
+        if self.holds(key) {
+            self.check_limit()
+        } else {
+            Err(Refused::Absent)
+        }
+    }
+
+    /// `LogFull` where the log has its limit of entries.
+    fn check_limit(&self) -> Result<(), Refused>
+        ensures { result ≡ verdict (full self.now.limit self.now.length) }
+    {
+        if self.limit <= self.len() {
+            Err(Refused::LogFull)
+        } else {
+            Ok(())
+        }
+    }
+
+    /// Some row has the key.
+    fn holds(&self, key: &Value) -> bool
+        ensures { result ≡ is_held self.now.key self.now.rows (datum_of key.now) }
+    {
+        self.rows.contains_key(key)
+    }
+
+    /// Room for the entry, so that `commit` takes no memory. Only an Insert needs any: one more
+    /// place for a row, and a copy of its key. `NoMemory` leaves the shard as it was. Mostly one
+    /// copy of the key; at times the rows' places are moved to a larger table.
+    pub fn reserve(&mut self, alloc: Global, entry: &Entry) -> Result<(), Refused>
+        requires { HasKey self.old.key (change_of entry.now) }
+        ensures only { IsOkUnless result Refused.NoMemory }
+        ensures succeeds { adds_row (change_of entry.now) ≡ false → IsOk result }
+        ensures room { OnOk result (HasRoom self.new (change_of entry.now)) }
+        ensures err { OnErr result (self.new ≡ self.old) }
+        ensures rows { self.new.rows ≡ self.old.rows }
+        ensures length { self.new.length ≡ self.old.length }
+        ensures key { self.new.key ≡ self.old.key }
+        ensures limit { self.new.limit ≡ self.old.limit }
+        ensures front { (front : List Change) → IsAt self.old front → IsAt self.new front }
+    {
+        match entry {
+            Entry::Insert(row) => self.make_room(alloc, row.cell(self.key_column)),
+            Entry::Delete(_) | Entry::Update(_) => Ok(()),
+        }
+    }
+
+    /// Room for a row with the key.
+    fn make_room(&mut self, alloc: Global, key: &Value) -> Result<(), Refused>
+        ensures only { IsOkUnless result Refused.NoMemory }
+        ensures ok { OnOk result (self.new ≡ record self.old { room = Some (datum_of key.now) }) }
+        ensures err { OnErr result (self.new ≡ self.old) }
+    {
+        let key = key.copied(alloc).map_err(|_| Refused::NoMemory)?;
+        self.rows.reserve(1).map_err(|_| Refused::NoMemory)?;
+        self.ready = Some(key);
+        Ok(())
+    }
+
+    /// Applies an entry that `check` allows and that there is room for: an Insert adds its row, a
+    /// Delete takes the row of its key away, and an Update puts its row in the place of the one of
+    /// the same key. It takes no memory, cannot fail, and looks one key up.
+    pub fn commit(&mut self, entry: Entry)
+        requires key { HasKey self.old.key (change_of entry) }
+        requires lawful { refusal_over self.old.key self.old.limit self.old.rows self.old.length (change_of entry) ≡ None }
+        requires room { HasRoom self.old (change_of entry) }
+        ensures rows { self.new.rows ≡ sorted row_cmp (changed self.old.key self.old.rows (change_of entry)) }
+        ensures length { self.new.length ≡ self.old.length + 1 }
+        ensures key { self.new.key ≡ self.old.key }
+        ensures limit { self.new.limit ≡ self.old.limit }
+        ensures room { self.new.room ≡ room_after self.old.room (change_of entry) }
+        ensures front { (front : List Change) → IsAt self.old front → IsAt self.new (front ++ change_of entry ∷ []) }
+    {
+        self.count();
+        match entry {
+            Entry::Insert(row) => self.insert(row),
+            Entry::Delete(key) => self.remove(&key),
+            Entry::Update(row) => self.replace(row),
+        }
+    }
+
+    /// One more entry.
+    fn count(&mut self)
+        requires { self.old.length < self.old.limit }
+        ensures { self.new ≡ record self.old { length = self.old.length + 1 } }
+    {
+        let _limit = self.limit;
+        self.entry_count += 1;
+    }
+
+    /// Adds a row whose key is ready and not held.
+    fn insert(&mut self, row: Row)
+        requires key { self.old.key < length row }
+        requires room { self.old.room ≡ Some (cell_at row self.old.key) }
+        requires absent { is_held self.old.key self.old.rows (cell_at row self.old.key) ≡ false }
+        ensures { self.new ≡ record self.old { rows = sorted row_cmp (changed self.old.key self.old.rows (inserts row)); room = None } }
+    {
+        if let Some(key) = self.ready.take() {
+            put(&mut self.rows, key, row);
+        }
+    }
+
+    /// Takes the row of the key away.
+    fn remove(&mut self, key: &Value)
+        ensures { self.new ≡ record self.old { rows = sorted row_cmp (changed self.old.key self.old.rows (deletes (datum_of key.now))) } }
+    {
+        let _ = self.rows.remove(key);
+    }
+
+    /// Puts the row in the place of the one of the same key, which is held.
+    fn replace(&mut self, row: Row)
+        requires key { self.old.key < length row }
+        requires held { is_held self.old.key self.old.rows (cell_at row self.old.key) ≡ true }
+        ensures { self.new ≡ record self.old { rows = sorted row_cmp (changed self.old.key self.old.rows (updates row)) } }
+    {
+        let place = self.rows.get_mut(row.cell(self.key_column)).unwrap();
+        *place = row;
+    }
+}
+
+/// Puts the row under a key that none has yet, in room that is there.
+fn put(rows: &mut HashMap<Value, Row>, key: Value, row: Row)
+    requires room { 0 < spare rows.old }
+    requires absent { get equal rows.old key ≡ None }
+    ensures entries { IsPermutation ((key, row) ∷ rows.old.entries) rows.new.entries }
+    ensures unique { IsUnique equal rows.new }
+{
+    let _ = rows.insert(key, row);
+}

@@ -1,0 +1,110 @@
+//! A base shard, one entry after another.
+ghost use Rattle.std.specs.Prelude.{◌≡◌, IfOk, length};
+ghost use Rattle.book.specs.Entries.{change_of};
+ghost use Rattle.base.specs.Shards.{HasKey};
+
+use crate::shard::BaseShard;
+use book::entry::Entry;
+use row::refused::Refused;
+use row::row::Row;
+use row::value::Value;
+use std::alloc::{AllocError, Global};
+use std::test::Fail;
+
+/// A row of a key and a text.
+fn row_of(alloc: Global, key: Value, text: &str) -> Result<Row, AllocError>
+    ensures { IfOk result (λ row. length row ≡ 2) }
+{
+    let text = Value::Text(String::from_str(alloc, text)?);
+    Ok(Row::new(vec![in alloc; key, text]?))
+}
+
+/// Checks the entry, makes room for it, and applies it.
+fn write(shard: &mut BaseShard, alloc: Global, entry: Entry) -> Result<(), Refused>
+    requires { HasKey shard.old.key (change_of entry) }
+    ensures { shard.new.key ≡ shard.old.key }
+{
+    shard.check(&entry)?;
+    shard.reserve(alloc, &entry)?;
+    shard.commit(entry);
+    Ok(())
+}
+
+#[test]
+fn refuses_by_key_and_then_by_limit(rt: HostRuntime) -> Result<(), Fail> {
+    let alloc = rt.alloc();
+    let mut shard = BaseShard::new(alloc, 0, 2);
+    assert!(rt; shard.is_empty());
+    let first = Entry::Insert(row_of(alloc, Value::Int(1), "one")?);
+    write(&mut shard, alloc, first)?;
+    assert_eq!(rt; shard.len(), 1);
+    let second = Entry::Insert(row_of(alloc, Value::Int(2), "two")?);
+    write(&mut shard, alloc, second)?;
+    assert_eq!(rt; shard.len(), 2);
+    assert!(rt; !shard.is_empty());
+
+    let third = Entry::Insert(row_of(alloc, Value::Int(3), "three")?);
+    assert_eq!(rt; shard.check(&third), Err(Refused::LogFull));
+    let again = Entry::Insert(row_of(alloc, Value::Int(1), "again")?);
+    assert_eq!(rt; shard.check(&again), Err(Refused::Duplicate));
+    assert_eq!(rt;
+        shard.check(&Entry::Delete(Value::Int(3))),
+        Err(Refused::Absent)
+    );
+    assert_eq!(rt;
+        shard.check(&Entry::Delete(Value::Int(1))),
+        Err(Refused::LogFull)
+    );
+    assert_eq!(rt; shard.len(), 2);
+    Ok(())
+}
+
+#[test]
+fn inserts_updates_and_deletes(rt: HostRuntime) -> Result<(), Fail> {
+    let alloc = rt.alloc();
+    let mut shard = BaseShard::new(alloc, 0, 10);
+    let row = row_of(alloc, Value::Int(7), "new")?;
+    write(&mut shard, alloc, Entry::Insert(row))?;
+    assert_eq!(rt; shard.len(), 1);
+    let row = row_of(alloc, Value::Int(7), "changed")?;
+    write(&mut shard, alloc, Entry::Update(row))?;
+    assert_eq!(rt; shard.len(), 2);
+    let row = row_of(alloc, Value::Int(8), "missing")?;
+    assert_eq!(rt;
+        write(&mut shard, alloc, Entry::Update(row)),
+        Err(Refused::Absent)
+    );
+    assert_eq!(rt; shard.len(), 2);
+    let delete = Entry::Delete(Value::Int(7));
+    write(&mut shard, alloc, delete)?;
+    assert_eq!(rt; shard.len(), 3);
+    let delete = Entry::Delete(Value::Int(7));
+    assert_eq!(rt; write(&mut shard, alloc, delete), Err(Refused::Absent));
+    assert_eq!(rt; shard.len(), 3);
+    let row = row_of(alloc, Value::Int(7), "back")?;
+    write(&mut shard, alloc, Entry::Insert(row))?;
+    assert_eq!(rt; shard.len(), 4);
+    Ok(())
+}
+
+#[test]
+fn finds_a_text_in_the_second_column(rt: HostRuntime) -> Result<(), Fail> {
+    let alloc = rt.alloc();
+    let mut shard = BaseShard::new(alloc, 1, 10);
+    let row = row_of(alloc, Value::Int(1), "ada")?;
+    write(&mut shard, alloc, Entry::Insert(row))?;
+    assert_eq!(rt; shard.len(), 1);
+    let again = Entry::Insert(row_of(alloc, Value::Int(2), "ada")?);
+    assert_eq!(rt; shard.check(&again), Err(Refused::Duplicate));
+    let other = Entry::Insert(row_of(alloc, Value::Int(1), "adam")?);
+    assert_eq!(rt; shard.check(&other), Ok(()));
+    let update = Entry::Update(row_of(alloc, Value::Int(3), "ada")?);
+    write(&mut shard, alloc, update)?;
+    assert_eq!(rt; shard.len(), 2);
+    let delete = Entry::Delete(Value::Text(String::from_str(alloc, "ada")?));
+    write(&mut shard, alloc, delete)?;
+    assert_eq!(rt; shard.len(), 3);
+    write(&mut shard, alloc, again)?;
+    assert_eq!(rt; shard.len(), 4);
+    Ok(())
+}
