@@ -1,0 +1,5 @@
+pub mod Words
+pub mod Machine
+pub mod Commands
+pub mod Scripts
+pub mod Values
