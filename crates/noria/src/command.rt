@@ -1,0 +1,53 @@
+//! The command line.
+ghost use Rattle.std.specs.Prelude.{◌≤◌};
+
+use crate::fault::Fault;
+use crate::runner::run_script;
+use row::refused::Refused;
+use std::alloc::Global;
+use std::io::Write;
+
+/// What standard error has where the words are of no known form.
+pub const USAGE: &str = "usage: noria run built-in SCRIPT";
+
+/// Where the texts of files come from.
+pub trait Texts {
+    /// The bytes of the file of this name. Refused with `CannotRead`, or `NoMemory`.
+    fn text(&mut self, name: &str) -> Result<Vec<u8>, Refused>;
+}
+
+/// Runs the program on the words behind its name, and gives the exit status: 0 where all was run,
+/// also where single calls were refused; 1 where a file, the memory or the output was refused,
+/// with the refusal on `err`; 2 for any other words, with the usage line there. A failed write to
+/// `err` leaves the status as it is.
+pub fn command<T: Texts, O: Write, E: Write>(
+    alloc: Global,
+    words: &[String],
+    texts: &mut T,
+    out: &mut O,
+    err: &mut E,
+) -> u8
+    ensures { result ≤ 2 }
+{
+    let Some(script) = script_named(words) else {
+        let _ = writeln!(err, "{USAGE}");
+        return 2;
+    };
+    match run_script(alloc, script, texts, out) {
+        Ok(()) => 0,
+        Err(fault) => {
+            let _ = writeln!(err, "{fault}");
+            1
+        }
+    }
+}
+
+// The name of the script, where the words are `run built-in SCRIPT`.
+fn script_named(words: &[String]) -> Option<&str> {
+    match words {
+        [run, recipe, script] if run.as_str() == "run" && recipe.as_str() == "built-in" => {
+            Some(script.as_str())
+        }
+        _ => None,
+    }
+}

@@ -1,0 +1,50 @@
+//! What ends a run.
+use row::refused::Refused;
+use script::script::ScriptError;
+use std::alloc::AllocError;
+use std::fmt;
+
+/// What ends a run: a refusal, or a line of the script that is of no known form.
+#[derive(Clone, Copy, PartialEq, Eq, Debug)]
+pub enum Fault {
+    Refused(Refused),
+    BadScript { line: usize },
+}
+
+impl fmt::Display for Fault {
+    fn fmt<W: fmt::Write>(&self, f: &mut fmt::Formatter<W>) -> fmt::Result {
+        match self {
+            Fault::Refused(refused) => write!(f, "refused {} {}", refused.number(), refused.name()),
+            Fault::BadScript { line } => {
+                let refused = Refused::BadScript;
+                write!(
+                    f,
+                    "refused {} {} line {line}",
+                    refused.number(),
+                    refused.name()
+                )
+            }
+        }
+    }
+}
+
+impl From<Refused> for Fault {
+    fn from(refused: Refused) -> Fault {
+        Fault::Refused(refused)
+    }
+}
+
+impl From<AllocError> for Fault {
+    fn from(_error: AllocError) -> Fault {
+        Fault::Refused(Refused::NoMemory)
+    }
+}
+
+impl From<ScriptError> for Fault {
+    fn from(error: ScriptError) -> Fault {
+        match error {
+            ScriptError::NoMemory => Fault::Refused(Refused::NoMemory),
+            ScriptError::BadScript { line } => Fault::BadScript { line },
+        }
+    }
+}

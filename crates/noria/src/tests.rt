@@ -1,0 +1,284 @@
+//! The program, called with texts and outputs of memory.
+use crate::command::{Texts, USAGE, command};
+use crate::session::Session;
+use plan::plan::Plan;
+use row::refused::Refused;
+use row::row::Row;
+use row::value::Value;
+use std::alloc::{AllocError, Global};
+use std::io;
+use std::test::Fail;
+
+/// One script, under the name `script`.
+#[derive(Drop)]
+struct OneText<'t> {
+    alloc: Global,
+    bytes: &'t [u8],
+}
+
+impl Texts for OneText<'_> {
+    fn text(&mut self, name: &str) -> Result<Vec<u8>, Refused> {
+        if name != "script" {
+            return Err(Refused::CannotRead);
+        }
+        Ok(Vec::from_slice(self.alloc, self.bytes)?)
+    }
+}
+
+/// What a run of the program left.
+#[derive(Drop)]
+struct Ran {
+    status: u8,
+    out: Vec<u8>,
+    err: Vec<u8>,
+}
+
+fn words_of(alloc: Global, words: &[&str]) -> Result<Vec<String>, AllocError> {
+    let mut all = Vec::new(alloc);
+    for word in words {
+        all.push(String::from_str(alloc, word)?)?;
+    }
+    Ok(all)
+}
+
+fn run_words(alloc: Global, words: &[&str], script: &[u8]) -> Result<Ran, AllocError> {
+    let words = words_of(alloc, words)?;
+    let mut texts = OneText {
+        alloc,
+        bytes: script,
+    };
+    let mut out = Vec::with_capacity(alloc, 4096)?;
+    let mut err = Vec::with_capacity(alloc, 256)?;
+    let status = command(alloc, words.as_slice(), &mut texts, &mut out, &mut err);
+    Ok(Ran { status, out, err })
+}
+
+fn run(alloc: Global, script: &[u8]) -> Result<Ran, AllocError> {
+    run_words(alloc, &["run", "built-in", "script"], script)
+}
+
+const WORKED: &[u8] = b"insert notes 1 7 a
+insert notes 1 8 b
+insert notes 2 7
+insert nope 1
+insert notes 2 7 \"c d\"
+";
+
+#[test]
+fn the_worked_script(rt: HostRuntime) -> Result<(), Fail> {
+    let ran = run(rt.alloc(), WORKED)?;
+    let wanted = b"accepted notes.0 0
+refused 4 Duplicate
+refused 3 BadRow
+refused 2 UnknownTable
+accepted notes.0 1
+";
+    assert_eq!(rt; ran.status, 0);
+    assert_eq!(rt; ran.out.as_slice(), wanted.as_slice());
+    assert_eq!(rt; ran.err.as_slice(), b"".as_slice());
+    Ok(())
+}
+
+#[test]
+fn other_words_print_the_usage(rt: HostRuntime) -> Result<(), Fail> {
+    let others: [&[&str]; 6] = [
+        &[],
+        &["run"],
+        &["run", "built-in"],
+        &["run", "notes.toml", "script"],
+        &["race", "built-in", "script"],
+        &["run", "built-in", "script", "script"],
+    ];
+    for words in others {
+        let ran = run_words(rt.alloc(), words, WORKED)?;
+        assert_eq!(rt; ran.status, 2);
+        assert_eq!(rt; ran.out.as_slice(), b"".as_slice());
+        let wanted = b"usage: noria run built-in SCRIPT\n";
+        assert_eq!(rt; ran.err.as_slice(), wanted.as_slice());
+    }
+    assert_eq!(rt; USAGE, "usage: noria run built-in SCRIPT");
+    Ok(())
+}
+
+#[test]
+fn an_empty_script_prints_nothing(rt: HostRuntime) -> Result<(), Fail> {
+    let ran = run(rt.alloc(), b"")?;
+    assert_eq!(rt; ran.status, 0);
+    assert_eq!(rt; ran.out.as_slice(), b"".as_slice());
+    assert_eq!(rt; ran.err.as_slice(), b"".as_slice());
+    Ok(())
+}
+
+#[test]
+fn a_bad_line_refuses_the_script(rt: HostRuntime) -> Result<(), Fail> {
+    let scripts: [(&[u8], &[u8]); 6] = [
+        (b"jump", b"refused 30 BadScript line 1\n"),
+        (
+            b"# a\n\ninsert notes 1 7 a\ninsert notes 1 7 \"a\n",
+            b"refused 30 BadScript line 4\n",
+        ),
+        (
+            b"insert notes 1 7 \"x\\ny\"\n",
+            b"refused 30 BadScript line 1\n",
+        ),
+        (
+            b"insert notes 1 7 a\ninsert notes 2 7 \"a\"b\n",
+            b"refused 30 BadScript line 2\n",
+        ),
+        (b"insert notes\n", b"refused 30 BadScript line 1\n"),
+        (b"insert notes 1 7 a\r\n", b"refused 30 BadScript line 1\n"),
+    ];
+    for (script, wanted) in scripts {
+        let ran = run(rt.alloc(), script)?;
+        assert_eq!(rt; ran.status, 1);
+        assert_eq!(rt; ran.out.as_slice(), b"".as_slice());
+        assert_eq!(rt; ran.err.as_slice(), wanted);
+    }
+    Ok(())
+}
+
+#[test]
+fn a_script_that_is_not_there(rt: HostRuntime) -> Result<(), Fail> {
+    let ran = run_words(rt.alloc(), &["run", "built-in", "nowhere"], WORKED)?;
+    assert_eq!(rt; ran.status, 1);
+    assert_eq!(rt; ran.out.as_slice(), b"".as_slice());
+    assert_eq!(rt; ran.err.as_slice(), b"refused 31 CannotRead\n".as_slice());
+    Ok(())
+}
+
+#[test]
+fn numbers_are_those_of_64_bits_as_printed(rt: HostRuntime) -> Result<(), Fail> {
+    let script = b"insert notes -0 7 a
+insert notes 01 7 a
+insert notes +1 7 a
+insert notes 9223372036854775808 7 a
+insert notes -9223372036854775809 7 a
+insert notes x 7 a
+insert notes \"\" 7 a
+insert notes -9223372036854775808 7 a
+insert notes 9223372036854775807 \"7\" 8
+";
+    let wanted = b"refused 3 BadRow
+refused 3 BadRow
+refused 3 BadRow
+refused 3 BadRow
+refused 3 BadRow
+refused 3 BadRow
+refused 3 BadRow
+accepted notes.0 0
+accepted notes.0 1
+";
+    let ran = run(rt.alloc(), script)?;
+    assert_eq!(rt; ran.status, 0);
+    assert_eq!(rt; ran.out.as_slice(), wanted.as_slice());
+    Ok(())
+}
+
+// A script that inserts one row with a body of so many bytes.
+fn script_of_body(alloc: Global, len: usize) -> Result<Vec<u8>, AllocError> {
+    let mut script = Vec::from_slice(alloc, b"insert notes 1 7 ")?;
+    for _ in 0..len {
+        script.push(b'b')?;
+    }
+    Ok(script)
+}
+
+#[test]
+fn texts_have_at_most_255_bytes(rt: HostRuntime) -> Result<(), Fail> {
+    let longest = script_of_body(rt.alloc(), 255)?;
+    let ran = run(rt.alloc(), longest.as_slice())?;
+    assert_eq!(rt; ran.out.as_slice(), b"accepted notes.0 0\n".as_slice());
+    let longer = script_of_body(rt.alloc(), 256)?;
+    let ran = run(rt.alloc(), longer.as_slice())?;
+    assert_eq!(rt; ran.out.as_slice(), b"refused 3 BadRow\n".as_slice());
+    Ok(())
+}
+
+#[test]
+fn spent_numbers_are_stolen(rt: HostRuntime) -> Result<(), Fail> {
+    let plan = Plan::built_in(rt.alloc())?;
+    let mut session = Session::spent(rt.alloc(), &plan);
+    let mut cells = Vec::new(rt.alloc());
+    cells.push(Value::Int(1))?;
+    let refused = session.insert(rt.alloc(), "nope", Row::new(cells));
+    assert_eq!(rt; refused, Err(Refused::Stolen));
+    Ok(())
+}
+
+/// A writer that takes so many writes and then fails.
+#[derive(Drop)]
+struct Failing {
+    writes: usize,
+}
+
+impl io::Write for Failing {
+    fn write(&mut self, bytes: &[u8]) -> io::Result<usize> {
+        if self.writes == 0 {
+            return Err(io::Error::from(io::ErrorKind::BrokenPipe));
+        }
+        self.writes -= 1;
+        Ok(bytes.len())
+    }
+
+    fn flush(&mut self) -> io::Result<()> {
+        Ok(())
+    }
+}
+
+#[test]
+fn an_output_that_fails(rt: HostRuntime) -> Result<(), Fail> {
+    let words = words_of(rt.alloc(), &["run", "built-in", "script"])?;
+    // More output than a buffer holds.
+    let mut script = Vec::new(rt.alloc());
+    for _ in 0..1000 {
+        script.extend_from_slice(b"insert notes 1 7 a\n")?;
+    }
+    for writes in 0..3 {
+        let mut texts = OneText {
+            alloc: rt.alloc(),
+            bytes: script.as_slice(),
+        };
+        let mut err = Vec::new(rt.alloc());
+        let mut out = Failing { writes };
+        let status = command(rt.alloc(), words.as_slice(), &mut texts, &mut out, &mut err);
+        if writes < 2 {
+            assert_eq!(rt; status, 1);
+            assert_eq!(rt; err.as_slice(), b"refused 32 CannotWrite\n".as_slice());
+        }
+    }
+    Ok(())
+}
+
+#[test]
+fn an_error_output_that_fails_leaves_the_status(rt: HostRuntime) -> Result<(), Fail> {
+    let words = words_of(rt.alloc(), &["run", "built-in", "nowhere"])?;
+    let mut texts = OneText {
+        alloc: rt.alloc(),
+        bytes: WORKED,
+    };
+    let mut out = Failing { writes: 0 };
+    let mut err = Failing { writes: 0 };
+    let status = command(rt.alloc(), words.as_slice(), &mut texts, &mut out, &mut err);
+    assert_eq!(rt; status, 1);
+    let status = command(rt.alloc(), &[], &mut texts, &mut out, &mut err);
+    assert_eq!(rt; status, 2);
+    Ok(())
+}
+
+// With an allocation refused the program still ends, what it printed as accepted stands, and no
+// index is given twice: a third row is not accepted, since two keys were asked for.
+#[test]
+fn accepted_lines_stand_where_memory_is_refused(rt: HostRuntime) {
+    let Ok(ran) = run(rt.alloc(), WORKED) else {
+        return;
+    };
+    assert!(rt; ran.status < 2);
+    let accepted: [&[u8]; 2] = [b"accepted notes.0 0", b"accepted notes.0 1"];
+    let mut count = 0;
+    for line in ran.out.split(|byte| *byte == b'\n') {
+        if line.starts_with(b"accepted") {
+            assert_eq!(rt; accepted.get(count).copied(), Some(line));
+            count += 1;
+        }
+    }
+}
