@@ -130,7 +130,8 @@ impl BaseShard {
     pub fn reserve(&mut self, alloc: Global, entry: &Entry) -> Result<(), Refused>
         requires { HasKey self.old.key (change_of entry.now) }
         ensures only { IsOkUnless result Refused.NoMemory }
-        ensures succeeds { adds_row (change_of entry.now) ≡ false → IsOk result }
+        ensures unneeded { adds_row (change_of entry.now) ≡ false → IsOk result }
+        ensures unchanged { adds_row (change_of entry.now) ≡ false → self.new ≡ self.old }
         ensures room { OnOk result (HasRoom self.new (change_of entry.now)) }
         ensures err { OnErr result (self.new ≡ self.old) }
         ensures rows { self.new.rows ≡ self.old.rows }

@@ -1,5 +1,6 @@
 //! The command line.
-ghost use Rattle.std.specs.Prelude.{◌≤◌};
+ghost use Rattle.std.specs.Prelude.{◌≡◌, ◌≤◌, ◌==◌, is_some, map, not, string_bytes};
+ghost use Rattle.noria.specs.Arguments.{is_run};
 
 use crate::fault::Fault;
 use crate::runner::run_script;
@@ -27,7 +28,8 @@ pub fn command<T: Texts, O: Write, E: Write>(
     out: &mut O,
     err: &mut E,
 ) -> u8
-    ensures { result ≤ 2 }
+    ensures status { result ≤ 2 }
+    ensures usage { (result == 2) ≡ not (is_run (map string_bytes words.now)) }
 {
     let Some(script) = script_named(words) else {
         let _ = writeln!(err, "{USAGE}");
@@ -43,7 +45,9 @@ pub fn command<T: Texts, O: Write, E: Write>(
 }
 
 // The name of the script, where the words are `run built-in SCRIPT`.
-fn script_named(words: &[String]) -> Option<&str> {
+fn script_named(words: &[String]) -> Option<&str>
+    ensures { is_some result ≡ is_run (map string_bytes words.now) }
+{
     match words {
         [run, recipe, script] if run.as_str() == "run" && recipe.as_str() == "built-in" => {
             Some(script.as_str())
