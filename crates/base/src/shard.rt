@@ -172,7 +172,17 @@ impl BaseShard {
         ensures room { self.new.room ≡ room_after self.old.room (change_of entry) }
         ensures front { (front : List Change) → IsAt self.old front → IsAt self.new (front ++ change_of entry ∷ []) }
     {
+        self.apply(entry);
         self.count();
+    }
+
+    /// Changes the rows by the entry.
+    fn apply(&mut self, entry: Entry)
+        requires key { HasKey self.old.key (change_of entry) }
+        requires lawful { refusal_over self.old.key self.old.limit self.old.rows self.old.length (change_of entry) ≡ None }
+        requires room { HasRoom self.old (change_of entry) }
+        ensures { self.new ≡ record self.old { rows = sorted row_cmp (changed self.old.key self.old.rows (change_of entry)); room = room_after self.old.room (change_of entry) } }
+    {
         match entry {
             Entry::Insert(row) => self.insert(row),
             Entry::Delete(key) => self.remove(&key),

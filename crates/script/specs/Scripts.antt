@@ -1,5 +1,6 @@
 -- The lines of a script, and the calls that they are.
-use Rattle.std.specs.Prelude.{◌≡◌, ℕ, ◌+◌, ◌==◌, List, [], ◌∷◌, ◌++◌, ◌⊎◌, length, Option, Some, None, if◌then◌else◌}
+use Rattle.std.specs.Prelude.{◌≡◌, ℕ, ◌+◌, ◌==◌, Bool, not, List, [], ◌∷◌, ◌++◌, ◌⊎◌, length, Option, Some, None, if◌then◌else◌}
+use Rattle.std.specs.List.{list_all}
 use Rattle.row.specs.declared.refused.Refused.{Refused}
 use Rattle.row.specs.declared.refused.Refused.TheVariants as refused
 use Rattle.script.specs.Words.{IsLine}
@@ -17,6 +18,15 @@ with_byte b (line ∷ lines) = (b ∷ line) ∷ lines
 abbrev pub lines_of : List ℕ → List (List ℕ)
 lines_of [] = []
 lines_of (b ∷ bs) = if b == 10 then [] ∷ lines_of bs else with_byte b (lines_of bs)
+
+-- the lines, each with a line feed behind it
+abbrev pub ended : List (List ℕ) → List ℕ
+ended [] = []
+ended (line ∷ lines) = line ++ (10 ∷ ended lines)
+
+-- no byte of the line is a line feed
+abbrev pub is_whole : List ℕ → Bool
+is_whole line = list_all (λ b. not (b == 10)) line
 
 -- its first byte is `#`
 abbrev pub IsComment : List ℕ → Type 0

@@ -1,8 +1,9 @@
 //! The calls of a script.
-ghost use Rattle.std.specs.Prelude.{◌≡◌, ℕ, ◌+◌, ◌<◌, ◌≤◌, ◌^◌, ◌≢◌, ◌↔◌, IsTrue, List, ◌∷◌, ◌++◌, length, map, slice_index, Option, Some, IfOk, OnOk, IsErrOf};
+ghost use Rattle.std.specs.Prelude.{◌≡◌, ℕ, ◌+◌, ◌<◌, ◌≤◌, ◌^◌, ◌≢◌, ◌↔◌, IsTrue, List, ◌∷◌, ◌++◌, [], ◌⊎◌, true, length, map, slice_index, Option, Some, IfOk, OnOk, IsErrOf};
+ghost use Rattle.std.specs.List.{list_all};
 ghost use Rattle.std.specs.Option.{option_map};
 ghost use Rattle.script.specs.Commands.{Action, action_of};
-ghost use Rattle.script.specs.Scripts.{lines_of, Says, Numbered, numbered, call_at, IsComment, IsScript, IsFault, IsFirstFault, refusal_of};
+ghost use Rattle.script.specs.Scripts.{lines_of, ended, is_whole, Says, Numbered, numbered, call_at, IsComment, IsScript, IsFault, IsFirstFault, refusal_of};
 
 use crate::command::Command;
 use crate::words::{LineError, words};
@@ -119,6 +120,14 @@ impl Reader {
         Ok(())
     }
 }
+
+/// A law of texts: a text is its lines, each with a line feed behind it, which the last may lack,
+/// and no line has a line feed in it. It does nothing.
+#[tactic(auto, using(crate::proofs::Lines::lines_ended, crate::proofs::Lines::lines_whole))]
+pub fn lines_are_the_text()
+    ensures ended { (text : List ℕ) → (ended (lines_of text) ≡ text) ⊎ (ended (lines_of text) ≡ text ++ 10 ∷ []) }
+    ensures whole { (text : List ℕ) → list_all is_whole (lines_of text) ≡ true }
+{}
 
 /// The calls of a script, in order, with the numbers of their lines. `BadScript` names the first
 /// line that is neither skipped nor a call. A look at each byte, and a copy of the words.
