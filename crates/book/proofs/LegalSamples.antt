@@ -1,10 +1,10 @@
 -- A legal history, and some that are not.
-use Rattle.std.proofs.Common.{◌≡◌, ◌<◌, ◌≤◌, ℕ, zero, suc, List, [], ◌∷◌, ◌++◌, length, refl, codes, arith, slice_index_or}
+use Rattle.std.proofs.Common.{◌≡◌, ◌<◌, ◌≤◌, ℕ, zero, suc, List, [], ◌∷◌, ◌++◌, length, Option, Some, None, refl, ap, codes, arith, slice_index_or}
 use Rattle.row.specs.Cells.{text, Cells}
-use Rattle.plan.specs.Recipes.{recipe_n}
+use Rattle.plan.specs.Recipes.{notes_plan, notes_sharded}
 use Rattle.book.specs.Logs.{inserts, deletes}
 use Rattle.book.specs.Places.{source_at}
-use Rattle.book.specs.Histories.{Item, write, read, fence, Lengths, Floors, Place, len_at, log_of}
+use Rattle.book.specs.Histories.{Item, write, read, fence, Lengths, Floors, Place, Author, len_at, log_of}
 use Rattle.book.specs.Cuts.{IsAtMost, IsWithin}
 use Rattle.book.specs.Legal.{limit, IsPast, EachShard, Allows, IsLegal}
 use Rattle.book.proofs.Samples.{n}
@@ -29,7 +29,7 @@ abbrev pub history : List Item
 history = fence 0 [] (floored 0) ∷ first_write ∷ fence 0 (first_place ∷ []) (floored 1) ∷ read 0 0 (n 7) (note ∷ []) (upto 1) ∷ []
 
 -- ---- the pieces of a proof that it is legal
-one_shard : (P : ℕ → ℕ → Type 0) → P 0 0 → EachShard recipe_n P
+one_shard : (P : ℕ → ℕ → Type 0) → P 0 0 → EachShard notes_plan P
 one_shard P h zero zero li lj = h
 one_shard P h zero (suc j) li lj = let e : suc j < 1 = lj in absurd (omega arith)
 one_shard P h (suc i) j li lj = let e : suc i < 1 = li in absurd (omega arith)
@@ -38,12 +38,12 @@ upto_lines : (k s : ℕ) → s < 1 → length (slice_index_or (upto k) s []) ≡
 upto_lines k zero ls = refl
 upto_lines k (suc s) ls = absurd (omega arith)
 
-upto_lengths : (k : ℕ) (h : List Item) → k ≤ length (log_of 0 h) → (s j : ℕ) → len_at (upto k) s j ≤ length (log_of (source_at recipe_n j) h)
+upto_lengths : (k : ℕ) (h : List Item) → k ≤ length (log_of 0 h) → (s j : ℕ) → len_at (upto k) s j ≤ length (log_of (source_at notes_plan j) h)
 upto_lengths k h le zero zero = le
 upto_lengths k h le zero (suc j) = omega arith
 upto_lengths k h le (suc s) j = omega arith
 
-upto_within : (k : ℕ) (h : List Item) → k ≤ length (log_of 0 h) → IsWithin recipe_n h (upto k)
+upto_within : (k : ℕ) (h : List Item) → k ≤ length (log_of 0 h) → IsWithin notes_plan h (upto k)
 upto_within k h le = record { stages = refl; lines = upto_lines k; lengths = upto_lengths k h le }
 
 upto_most : (a b : ℕ) → a ≤ b → IsAtMost (upto a) (upto b)
@@ -51,7 +51,7 @@ upto_most a b le zero zero = le
 upto_most a b le zero (suc j) = omega arith
 upto_most a b le (suc s) j = omega arith
 
-past_first : IsPast recipe_n (upto 1) first_place
+past_first : IsPast notes_plan (upto 1) first_place
 past_first zero zero ls lj e = omega arith
 past_first zero (suc j) ls lj e = let l : suc j < 1 = lj in absurd (omega arith)
 past_first (suc s) j ls lj e = let l : suc s < 1 = ls in absurd (omega arith)
@@ -62,7 +62,7 @@ after_write = fence 0 [] (floored 0) ∷ first_write ∷ []
 abbrev after_fence : List Item
 after_fence = after_write ++ fence 0 (first_place ∷ []) (floored 1) ∷ []
 
-fence_first : Allows recipe_n 1 [] (fence 0 [] (floored 0))
+fence_first : Allows notes_plan 1 [] (fence 0 [] (floored 0))
 fence_first = record {
   session = omega arith;
   within = one_shard _ (upto_within 0 [] (omega arith));
@@ -71,10 +71,10 @@ fence_first = record {
   written = tt;
 }
 
-write_first : Allows recipe_n 1 (fence 0 [] (floored 0) ∷ []) first_write
+write_first : Allows notes_plan 1 (fence 0 [] (floored 0) ∷ []) first_write
 write_first = record { base = omega arith; fits = refl; shard = refl; lawful = refl; room = (let r : 0 < limit = omega arith in r); number = tt }
 
-fence_second : Allows recipe_n 1 after_write (fence 0 (first_place ∷ []) (floored 1))
+fence_second : Allows notes_plan 1 after_write (fence 0 (first_place ∷ []) (floored 1))
 fence_second = record {
   session = omega arith;
   within = one_shard _ (upto_within 1 after_write (let r : 1 ≤ 1 = omega arith in r));
@@ -83,7 +83,7 @@ fence_second = record {
   written = (record { source = 0; there = (let r : 0 < 1 = omega arith in r); base = refl; number = 0; wrote = refl }, tt);
 }
 
-read_first : Allows recipe_n 1 after_fence (read 0 0 (n 7) (note ∷ []) (upto 1))
+read_first : Allows notes_plan 1 after_fence (read 0 0 (n 7) (note ∷ []) (upto 1))
 read_first = record {
   session = omega arith;
   view = (let r : 0 < 1 = omega arith in r);
@@ -92,36 +92,36 @@ read_first = record {
   answers = refl;
 }
 
-pub history_legal : IsLegal recipe_n 1 history
+pub history_legal : IsLegal notes_plan 1 history
 history_legal = (fence_first, (write_first, (fence_second, (read_first, tt))))
 
 -- ---- not legal after the fence
 -- a read below the floor
-pub not_below : Allows recipe_n 1 after_fence (read 0 0 (n 7) [] (upto 0)) → ⊥
+pub not_below : Allows notes_plan 1 after_fence (read 0 0 (n 7) [] (upto 0)) → ⊥
 not_below a = let f : 1 ≤ 0 = a.floor 0 0 in absurd (omega arith)
 
 -- a read that leaves out a row
-pub not_less : Allows recipe_n 1 after_fence (read 0 0 (n 7) [] (upto 1)) → ⊥
+pub not_less : Allows notes_plan 1 after_fence (read 0 0 (n 7) [] (upto 1)) → ⊥
 not_less a = absurd (cc (a.answers))
 
 -- a read past the log
-pub not_past : Allows recipe_n 1 after_fence (read 0 0 (n 7) (note ∷ []) (upto 2)) → ⊥
+pub not_past : Allows notes_plan 1 after_fence (read 0 0 (n 7) (note ∷ []) (upto 2)) → ⊥
 not_past a = let f : 2 ≤ 1 = a.within.lengths 0 0 in absurd (omega arith)
 
 -- a second insert of the key
-pub not_twice : Allows recipe_n 1 after_fence (write 0 1 0 (inserts note)) → ⊥
+pub not_twice : Allows notes_plan 1 after_fence (write 0 1 0 (inserts note)) → ⊥
 not_twice a = absurd (cc (a.lawful))
 
 -- a write under an old number
-pub not_again : Allows recipe_n 1 after_fence (write 0 0 0 (deletes (n 1))) → ⊥
+pub not_again : Allows notes_plan 1 after_fence (write 0 0 0 (deletes (n 1))) → ⊥
 not_again a = let f : 0 < 0 = a.number.0 refl in absurd (omega arith)
 
 -- a fence that misses an own write
-pub not_missed : Allows recipe_n 1 after_write (fence 0 (first_place ∷ []) (floored 0)) → ⊥
+pub not_missed : Allows notes_plan 1 after_write (fence 0 (first_place ∷ []) (floored 0)) → ⊥
 not_missed a = let f : 0 < 0 = (a.past 0 0 (let r : 0 < 1 = omega arith in r) (let r : 0 < 1 = omega arith in r)).0 0 0 (omega arith) (let r : 0 < 1 = omega arith in r) refl in absurd (omega arith)
 
 -- another session has no floor yet
-pub other_session : Allows recipe_n 2 after_fence (read 1 0 (n 7) [] (upto 0))
+pub other_session : Allows notes_plan 2 after_fence (read 1 0 (n 7) [] (upto 0))
 other_session = record {
   session = omega arith;
   view = (let r : 0 < 1 = omega arith in r);
@@ -129,3 +129,39 @@ other_session = record {
   floor = at_most_none (upto 0);
   answers = refl;
 }
+
+-- a write that does not fit its table
+pub not_fitting : Allows notes_plan 1 after_fence (write 0 1 0 (inserts (n 2 ∷ []))) → ⊥
+not_fitting a = absurd (cc (a.fits))
+
+-- a write in another shard than that of its key
+pub not_its_shard : Allows notes_sharded 1 [] (write 0 0 0 (inserts note)) → ⊥
+not_its_shard a = let named : ℕ = 0 in let own : ℕ = 1 in let z : named ≡ own = a.shard in absurd (omega arith)
+
+-- a write to a shard that the plan does not have
+pub not_there : Allows notes_plan 1 [] (write 0 0 1 (inserts note)) → ⊥
+not_there a = let z : 1 < 1 = a.base in absurd (omega arith)
+
+-- a delete of a key that is not there
+pub not_absent : Allows notes_plan 1 [] (write 0 0 0 (deletes (n 1))) → ⊥
+not_absent a = absurd (cc (a.lawful))
+
+-- a fence below the floor
+pub not_lower : Allows notes_plan 1 after_fence (fence 0 [] (floored 0)) → ⊥
+not_lower a = let f : 1 ≤ 0 = a.floor 0 0 (let r : 0 < 1 = omega arith in r) (let r : 0 < 1 = omega arith in r) 0 0 in absurd (omega arith)
+
+-- a fence past the log
+pub not_beyond : Allows notes_plan 1 after_fence (fence 0 [] (floored 2)) → ⊥
+not_beyond a = let f : 2 ≤ 1 = (a.within 0 0 (let r : 0 < 1 = omega arith in r) (let r : 0 < 1 = omega arith in r)).lengths 0 0 in absurd (omega arith)
+
+abbrev session_of : Option Author → ℕ
+session_of None = 0
+session_of (Some a) = a.session
+
+-- a fence that calls another session's place its own
+pub not_own : Allows notes_plan 2 after_write (fence 1 (first_place ∷ []) (floored 1)) → ⊥
+not_own a = let theirs : ℕ = 0 in let mine : ℕ = 1 in let s : theirs ≡ mine = ap session_of a.written.0.wrote in absurd (omega arith)
+
+-- a read of a session that there is not
+pub not_a_session : Allows notes_plan 1 after_fence (read 1 0 (n 7) [] (upto 0)) → ⊥
+not_a_session a = let s : 1 < 1 = a.session in absurd (omega arith)

@@ -17,6 +17,7 @@ len_at cut s j = slice_index_or (slice_index_or cut s []) j 0
 abbrev pub Floors : Type 0
 Floors = List (List Lengths)
 
+-- the floor at shard j of view i
 abbrev pub floor_at : Floors → ℕ → ℕ → Lengths
 floor_at floors i j = slice_index_or (slice_index_or floors i []) j []
 
@@ -25,6 +26,7 @@ pub record Place : Type 0 where
   pub base : ℕ
   pub index : ℕ
 
+-- a write, a read or a fence, each of a session
 pub data Item : Type 0 where
   write : (session number base : ℕ) → (entry : Change) → Item
   read : (session view : ℕ) → (key : Datum) → (rows : List Cells) → (cut : Lengths) → Item
@@ -36,6 +38,7 @@ entry_in b (write s m c e) = cond (c == b) (e ∷ []) []
 entry_in b (read s i k rows cut) = []
 entry_in b (fence s own floors) = []
 
+-- the log of base shard b
 abbrev pub log_of : ℕ → List Item → List Change
 log_of b h = flat_map (entry_in b) h
 
@@ -44,6 +47,7 @@ pub record Author : Type 0 where
   pub session : ℕ
   pub number : ℕ
 
+-- the author that an item adds to it
 abbrev pub author_in : ℕ → Item → List Author
 author_in b (write s m c e) = cond (c == b) (record { session = s; number = m } ∷ []) []
 author_in b (read s i k rows cut) = []
@@ -63,6 +67,7 @@ floor_in p me i j (write s m b e) = []
 floor_in p me i j (read s v k rows cut) = cond ((s == me) && ((v == i) && (view_shard p v k == j))) (cut ∷ []) []
 floor_in p me i j (fence s own floors) = cond (s == me) (floor_at floors i j ∷ []) []
 
+-- the last of a list, or what stands before it
 abbrev pub last_or : {A : Type 0} → A → List A → A
 last_or d [] = d
 last_or d (x ∷ xs) = last_or x xs

@@ -29,6 +29,7 @@ changed key rows (inserts r) = rows ++ r ∷ []
 changed key rows (deletes k) = filter (λ x. not (has key k x)) rows
 changed key rows (updates r) = map (λ x. cond (has key (cell_at r key) x) r x) rows
 
+-- the rows after further entries
 abbrev pub rows_after : ℕ → List Cells → List Change → List Cells
 rows_after key rows [] = rows
 rows_after key rows (e ∷ es) = rows_after key (changed key rows e) es

@@ -7,6 +7,7 @@ use Rattle.plan.specs.Layouts.{Layout, table_at, column_at, view_at}
 use Rattle.plan.specs.Kinds.{is_cell}
 use Rattle.book.specs.Logs.{Change, inserts, deletes, updates, rows_of, is_held, fits}
 
+-- a log of this length is full
 abbrev pub full : ℕ → ℕ → Option Refused
 full limit length = cond (nat_le limit length) (Some LogFull) None
 
@@ -39,3 +40,13 @@ key_refusal p column k = cond (is_cell (column_at (table_at p p.left.table) colu
 abbrev pub read_refusal : Layout → Option ℕ → Datum → Option Refused
 read_refusal p None k = Some UnknownView
 read_refusal p (Some i) k = key_refusal p (view_at p i).key k
+
+-- a call that names a view alone
+abbrev pub view_refusal : Option ℕ → Option Refused
+view_refusal None = Some UnknownView
+view_refusal (Some i) = None
+
+-- an eviction order at the stage has a left key, one at a view a key of the view
+abbrev pub evict_refusal : Layout → Option (Option ℕ) → Datum → Option Refused
+evict_refusal p None k = key_refusal p p.left.key k
+evict_refusal p (Some view) k = read_refusal p view k

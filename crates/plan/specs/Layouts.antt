@@ -49,6 +49,7 @@ pub record Layout : Type 0 where
   pub cap : ℕ
   pub views : List ViewLayout
 
+-- what stands past the end of a list
 abbrev pub no_column : ColumnLayout
 no_column = record { name = []; kind = kind.Int }
 

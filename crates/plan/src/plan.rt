@@ -2,7 +2,7 @@
 ghost use Rattle.std.specs.Prelude.{◌≡◌, ◌<◌, IfOk, IfSome, length, string_bytes};
 ghost use Rattle.std.specs.Option.{option_copied};
 ghost use Rattle.plan.specs.Layouts.{table_at, table_named, view_at, view_named};
-ghost use Rattle.plan.specs.Recipes.{recipe_n};
+ghost use Rattle.plan.specs.Recipes.{notes_plan};
 
 use crate::kinds::{Aggregate, Kind};
 use crate::stage::Side;
@@ -93,7 +93,7 @@ impl Plan {
     /// The built-in plan: one table `notes(id int, author int, body text)` with key `id`, and one
     /// view `by_author` of its rows, keyed by `author`; one shard of each.
     pub fn built_in(alloc: Global) -> Result<Plan, AllocError>
-        ensures { IfOk result (λ p. p ≡ recipe_n) }
+        ensures { IfOk result (λ p. p ≡ notes_plan) }
     {
         let mut columns = Vec::new(alloc);
         columns.push(Column::new(alloc, "id", Kind::Int)?)?;
