@@ -4,18 +4,12 @@ ghost use Rattle.noria.specs.Arguments.{is_run};
 
 use crate::fault::Fault;
 use crate::runner::run_script;
-use row::refused::Refused;
+use crate::texts::Texts;
 use std::alloc::Global;
 use std::io::Write;
 
 /// What standard error has where the words are of no known form.
 pub const USAGE: &str = "usage: noria run built-in SCRIPT";
-
-/// Where the texts of files come from.
-pub trait Texts {
-    /// The bytes of the file of this name. Refused with `CannotRead`, or `NoMemory`.
-    fn text(&mut self, name: &str) -> Result<Vec<u8>, Refused>;
-}
 
 /// Runs the program on the words behind its name, and gives the exit status: 0 where all was run,
 /// also where single calls were refused; 1 where a file, the memory or the output was refused,

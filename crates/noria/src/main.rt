@@ -3,15 +3,15 @@
 
 mod command;
 mod fault;
-mod files;
 mod runner;
 mod session;
 #[cfg(test)]
 mod tests;
+mod texts;
 
 use crate::command::command;
 use crate::fault::Fault;
-use crate::files::FileTexts;
+use crate::texts::FileTexts;
 use row::refused::Refused;
 use std::alloc::AllocError;
 use std::io::Write;

@@ -1,7 +1,7 @@
 //! Runs a script: its calls one after the other, and a line of output for each.
-use crate::command::Texts;
 use crate::fault::Fault;
 use crate::session::{Accepted, Session};
+use crate::texts::Texts;
 use plan::kinds::Kind;
 use plan::plan::Plan;
 use row::refused::Refused;

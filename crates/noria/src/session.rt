@@ -27,6 +27,7 @@ pub struct Accepted {
     pub index: u64,
 }
 
+/// The most entries of a log.
 const LIMIT: u64 = 4294967295;
 
 /// The one session of a plan with one table in one shard. It holds the book and the base shard.

@@ -1,6 +1,7 @@
 //! The program, called with texts and outputs of memory.
-use crate::command::{Texts, USAGE, command};
+use crate::command::{USAGE, command};
 use crate::session::Session;
+use crate::texts::Texts;
 use plan::plan::Plan;
 use row::refused::Refused;
 use row::row::Row;
@@ -53,8 +54,22 @@ fn run_words(alloc: Global, words: &[&str], script: &[u8]) -> Result<Ran, AllocE
     Ok(Ran { status, out, err })
 }
 
+// A run that met no want of memory.
+fn run_whole(alloc: Global, words: &[&str], script: &[u8]) -> Result<Ran, AllocError> {
+    let ran = run_words(alloc, words, script)?;
+    let met = |line: &[u8]| line == b"refused 1 NoMemory".as_slice();
+    if ran.out.split(is_line_feed).any(met) || ran.err.split(is_line_feed).any(met) {
+        return Err(AllocError);
+    }
+    Ok(ran)
+}
+
+fn is_line_feed(byte: &u8) -> bool {
+    *byte == b'\n'
+}
+
 fn run(alloc: Global, script: &[u8]) -> Result<Ran, AllocError> {
-    run_words(alloc, &["run", "built-in", "script"], script)
+    run_whole(alloc, &["run", "built-in", "script"], script)
 }
 
 const WORKED: &[u8] = b"insert notes 1 7 a
@@ -90,7 +105,7 @@ fn other_words_print_the_usage(rt: HostRuntime) -> Result<(), Fail> {
         &["run", "built-in", "script", "script"],
     ];
     for words in others {
-        let ran = run_words(rt.alloc(), words, WORKED)?;
+        let ran = run_whole(rt.alloc(), words, WORKED)?;
         assert_eq!(rt; ran.status, 2);
         assert_eq!(rt; ran.out.as_slice(), b"".as_slice());
         let wanted = b"usage: noria run built-in SCRIPT\n";
@@ -139,7 +154,7 @@ fn a_bad_line_refuses_the_script(rt: HostRuntime) -> Result<(), Fail> {
 
 #[test]
 fn a_script_that_is_not_there(rt: HostRuntime) -> Result<(), Fail> {
-    let ran = run_words(rt.alloc(), &["run", "built-in", "nowhere"], WORKED)?;
+    let ran = run_whole(rt.alloc(), &["run", "built-in", "nowhere"], WORKED)?;
     assert_eq!(rt; ran.status, 1);
     assert_eq!(rt; ran.out.as_slice(), b"".as_slice());
     assert_eq!(rt; ran.err.as_slice(), b"refused 31 CannotRead\n".as_slice());
@@ -228,23 +243,29 @@ impl io::Write for Failing {
 #[test]
 fn an_output_that_fails(rt: HostRuntime) -> Result<(), Fail> {
     let words = words_of(rt.alloc(), &["run", "built-in", "script"])?;
-    // More output than a buffer holds.
+    // Two buffers of output, and then the rest as the run ends.
     let mut script = Vec::new(rt.alloc());
-    for _ in 0..1000 {
-        script.extend_from_slice(b"insert notes 1 7 a\n")?;
+    for _ in 0..900 {
+        script.extend_from_slice(b"insert a 1\n")?;
     }
-    for writes in 0..3 {
+    for (writes, wanted) in [(0, 1), (1, 1), (2, 1), (3, 0)] {
         let mut texts = OneText {
             alloc: rt.alloc(),
             bytes: script.as_slice(),
         };
-        let mut err = Vec::new(rt.alloc());
+        let mut err = Vec::with_capacity(rt.alloc(), 256)?;
         let mut out = Failing { writes };
         let status = command(rt.alloc(), words.as_slice(), &mut texts, &mut out, &mut err);
-        if writes < 2 {
-            assert_eq!(rt; status, 1);
-            assert_eq!(rt; err.as_slice(), b"refused 32 CannotWrite\n".as_slice());
+        if err.as_slice() == b"refused 1 NoMemory\n".as_slice() {
+            return Err(AllocError.into());
         }
+        assert_eq!(rt; status, wanted, "after {writes} writes");
+        let line: &[u8] = if wanted == 1 {
+            b"refused 32 CannotWrite\n"
+        } else {
+            b""
+        };
+        assert_eq!(rt; err.as_slice(), line);
     }
     Ok(())
 }
@@ -265,20 +286,38 @@ fn an_error_output_that_fails_leaves_the_status(rt: HostRuntime) -> Result<(), F
     Ok(())
 }
 
-// With an allocation refused the program still ends, what it printed as accepted stands, and no
-// index is given twice: a third row is not accepted, since two keys were asked for.
+// With an allocation refused the program still ends. Each line is an answer that its call may
+// have, an index is given once and in order, and what was accepted stands: its key is not
+// accepted again.
 #[test]
 fn accepted_lines_stand_where_memory_is_refused(rt: HostRuntime) {
-    let Ok(ran) = run(rt.alloc(), WORKED) else {
+    let Ok(ran) = run_words(rt.alloc(), &["run", "built-in", "script"], WORKED) else {
         return;
     };
     assert!(rt; ran.status < 2);
-    let accepted: [&[u8]; 2] = [b"accepted notes.0 0", b"accepted notes.0 1"];
-    let mut count = 0;
-    for line in ran.out.split(|byte| *byte == b'\n') {
-        if line.starts_with(b"accepted") {
-            assert_eq!(rt; accepted.get(count).copied(), Some(line));
-            count += 1;
-        }
-    }
+    let mut lines = ran.out.split(is_line_feed);
+    let first: &[u8] = lines.next().unwrap_or(b"");
+    let second: &[u8] = lines.next().unwrap_or(b"");
+    let third: &[u8] = lines.next().unwrap_or(b"");
+    let fourth: &[u8] = lines.next().unwrap_or(b"");
+    let fifth: &[u8] = lines.next().unwrap_or(b"");
+    let zero: &[u8] = b"accepted notes.0 0";
+    let one: &[u8] = b"accepted notes.0 1";
+    let none: &[u8] = b"refused 1 NoMemory";
+    let end: &[u8] = b"";
+    assert!(rt; first == zero || first == none || first == end);
+    let again: &[u8] = if first == zero {
+        b"refused 4 Duplicate"
+    } else {
+        zero
+    };
+    assert!(rt; second == again || second == none || second == end);
+    assert!(rt; third == b"refused 3 BadRow".as_slice() || third == none || third == end);
+    assert!(rt; fourth == b"refused 2 UnknownTable".as_slice() || fourth == none || fourth == end);
+    let next: &[u8] = if first == zero || second == zero {
+        one
+    } else {
+        zero
+    };
+    assert!(rt; fifth == next || fifth == none || fifth == end);
 }
