@@ -3,3 +3,5 @@
 
 pub mod book;
 pub mod entry;
+#[cfg(test)]
+mod tests;

@@ -43,7 +43,7 @@ impl From<AllocError> for Fault {
 impl From<ScriptError> for Fault {
     fn from(error: ScriptError) -> Fault {
         match error {
-            ScriptError::NoMemory => Fault::Refused(Refused::NoMemory),
+            ScriptError::NoMemory => Fault::Refused(error.refused()),
             ScriptError::BadScript { line } => Fault::BadScript { line },
         }
     }

@@ -5,3 +5,5 @@ pub mod kinds;
 pub mod plan;
 pub mod stage;
 pub mod table;
+#[cfg(test)]
+mod tests;
