@@ -3,3 +3,10 @@ pub mod HistoryLaws
 pub mod Samples
 pub mod MoreSamples
 pub mod LegalSamples
+pub mod Parts
+pub mod Later
+pub mod PlaceLaws
+pub mod Prefixes
+pub mod Steps
+pub mod Words
+pub mod Fronts

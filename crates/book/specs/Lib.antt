@@ -7,3 +7,6 @@ pub mod Cuts
 pub mod Refusals
 pub mod Legal
 pub mod Books
+pub mod Words
+pub mod Pages
+pub mod Fronts

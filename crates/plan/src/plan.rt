@@ -1,5 +1,5 @@
 //! A checked plan, which contracts see as its layout.
-ghost use Rattle.std.specs.Prelude.{◌≡◌, ◌<◌, IfOk, IfSome, length, string_bytes};
+ghost use Rattle.std.specs.Prelude.{◌≡◌, ◌<◌, ◌≤◌, IfOk, IfSome, length, string_bytes};
 ghost use Rattle.std.specs.Option.{option_copied};
 ghost use Rattle.plan.specs.Layouts.{table_at, table_named, view_at, view_named};
 ghost use Rattle.plan.specs.Recipes.{notes_plan};
@@ -124,7 +124,8 @@ impl Plan {
 
     /// How many tables there are.
     pub fn tables(&self) -> usize
-        ensures { result ≡ length self.now.tables }
+        ensures count { result ≡ length self.now.tables }
+        ensures few { result ≤ 8 }
     {
         self.tables.len()
     }
@@ -134,6 +135,7 @@ impl Plan {
         requires { table < length self.now.tables }
         ensures table { result.now ≡ table_at self.now table }
         ensures key { result.now.key < length result.now.columns }
+        ensures shards { result.now.shards ≤ 8 }
     {
         &self.tables[table]
     }

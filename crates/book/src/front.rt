@@ -1,0 +1,147 @@
+//! Fronts: what is known of one log.
+ghost use Rattle.std.specs.Prelude.{◌≡◌, ℕ, ◌+◌, ◌<◌, ◌≤◌, [], ◌∷◌, length, true, MatchBool};
+ghost use mathlib.Core.List.{IsPrefix};
+ghost use Rattle.row.specs.Bags.{Each};
+ghost use Rattle.row.specs.Cells.{shard};
+ghost use Rattle.book.specs.Entries.{change_of};
+ghost use Rattle.book.specs.Fronts.{FrontView, entries, authors, IsAppended, IsMoved, IsAgreed};
+ghost use Rattle.book.specs.Histories.{Author, log_of};
+ghost use Rattle.book.specs.Legal.{limit, IsLegal};
+ghost use Rattle.book.specs.Logs.{fits, key_of, lawful};
+ghost use Rattle.book.specs.Pages.{opens};
+ghost use Rattle.book.specs.Places.{base_count, layout_of, shard_of};
+
+use crate::entry::Entry;
+use crate::law::{Add, Law, LogPage, Naming};
+use crate::shared::SharedBook;
+use crate::step::{learn, look_at, try_add};
+use logbook::{Plain, Seen};
+use std::marker::{Model, PhantomData};
+
+/// A beginning of the log of one base shard, and the history that was seen with it.
+#[derive(Drop)]
+pub struct Front<J: Naming> {
+    pub(crate) base: usize,
+    pub(crate) len: u64,
+    pub(crate) seen: Seen<LogPage, u64, Law>,
+    pub(crate) of: PhantomData<J>,
+}
+
+impl<J: Naming> Model for Front<J> {
+    ghost use Rattle.std.specs.Prelude.{◌≡◌};
+    ghost use Rattle.book.specs.Fronts.{FrontView, IsFront};
+    ghost use Rattle.book.specs.Pages.{IsLogOf, history_of};
+
+    ghost Value = { FrontView };
+
+    ghost view = { λ f. record { base = f.base; len = f.len; seen = history_of f.seen.log } };
+
+    ghost invariant = { λ f. (f.seen.book ≡ J.book) × IsLogOf J.plan J.sessions f.seen.log × IsFront J.plan (record { base = f.base; len = f.len; seen = history_of f.seen.log }) };
+}
+
+/// What an append asks for.
+#[derive(Drop)]
+pub struct Writing<'a> {
+    session: u64,
+    number: u64,
+    base: usize,
+    entry: &'a Entry,
+}
+
+impl<'a> Plain<Writing<'a>, LogPage, u64> for Add {
+    ghost use Rattle.std.specs.Prelude.{None};
+    ghost use Rattle.book.specs.Histories.{write};
+    ghost use Rattle.book.specs.Pages.{adds};
+    ghost use Rattle.book.specs.Entries.{change_of};
+
+    ghost ask = { λ w. adds (write w.session w.number w.base (change_of w.entry.now)) };
+
+    ghost state = { λ w. None };
+}
+
+impl<J: Naming> Front<J> {
+    /// The empty front.
+    pub(crate) fn first(base: usize, seen: Seen<LogPage, u64, Law>) -> Front<J>
+        requires book { seen.book ≡ J.book }
+        requires log { seen.log ≡ opens J.plan J.sessions ∷ [] }
+        requires base { base < base_count J.plan }
+        ensures { result ≡ record { base = base; len = 0; seen = [] } }
+    {
+        Front {
+            base,
+            len: 0,
+            seen,
+            of: PhantomData,
+        }
+    }
+
+    /// How many entries it has. What was seen is a legal history, whose log is no shorter.
+    pub fn len(&self) -> u64
+        ensures len { result ≡ self.now.len }
+        ensures legal { IsLegal J.plan J.sessions self.now.seen }
+        ensures within { self.now.len ≤ length (log_of self.now.base self.now.seen) }
+    {
+        self.len
+    }
+
+    /// A copy.
+    pub fn again(&self) -> Front<J>
+        ensures { result ≡ self.now }
+    {
+        Front {
+            base: self.base,
+            len: self.len,
+            seen: self.seen.again(),
+            of: PhantomData,
+        }
+    }
+
+    /// Sees the log as it is, and says how long it is. The front stays.
+    pub fn look(&mut self, book: &SharedBook<J>) -> u64
+        ensures base { self.new.base ≡ self.old.base }
+        ensures len { self.new.len ≡ self.old.len }
+        ensures seen { IsPrefix self.old.seen self.new.seen }
+        ensures entries { entries self.new ≡ entries self.old }
+        ensures found { result ≡ length (log_of self.new.base self.new.seen) }
+    {
+        look_at(book, self.base, &mut self.seen)
+    }
+
+    /// Sees what the other front has seen, too. Afterwards two fronts of one shard are known to agree.
+    pub fn meet(&mut self, other: &Front<J>)
+        ensures base { self.new.base ≡ self.old.base }
+        ensures len { self.new.len ≡ self.old.len }
+        ensures entries { entries self.new ≡ entries self.old }
+        ensures seen { IsPrefix self.old.seen self.new.seen }
+        ensures others { IsPrefix other.now.seen self.new.seen }
+        ensures agreed { self.old.base ≡ other.now.base → IsAgreed self.new other.now }
+    {
+        learn::<J>(&mut self.seen, &other.seen);
+    }
+
+    /// Adds an entry at the end of the log, and says whether it did. It did not where the log has moved.
+    pub fn append(&mut self, book: &SharedBook<J>, session: u64, number: u64, entry: &Entry) -> bool
+        requires fits { fits (layout_of J.plan self.old.base) (change_of entry.now) ≡ true }
+        requires shard { shard_of J.plan self.old.base ≡ shard (key_of (layout_of J.plan self.old.base).key (change_of entry.now)) (layout_of J.plan self.old.base).shards }
+        requires lawful { lawful (layout_of J.plan self.old.base).key (entries self.old) (change_of entry.now) ≡ true }
+        requires room { self.old.len < limit }
+        requires number { Each (λ (a : Author). a.session ≡ session → a.number < number) (authors self.old) }
+        ensures legal { IsLegal J.plan J.sessions self.new.seen }
+        ensures told { MatchBool result (IsAppended J.plan self.old session number (change_of entry.now) self.new) (IsMoved self.old self.new) }
+    {
+        let asked = Writing {
+            session,
+            number,
+            base: self.base,
+            entry,
+        };
+        let len = self.len;
+        let found = try_add::<J, Writing, Add>(book, self.base, len, &mut self.seen, &asked);
+        if found == len {
+            self.len = len + 1;
+            true
+        } else {
+            false
+        }
+    }
+}

@@ -1,0 +1,144 @@
+//! A book whose history stands in words that all threads share.
+ghost use Rattle.std.specs.Prelude.{◌≡◌, ◌+◌, ◌<◌, ◌≤◌, [], IfOk, slice_index_or};
+ghost use Rattle.book.specs.Pages.{words_of, word_named};
+ghost use Rattle.book.specs.Places.{base_count};
+
+use crate::front::Front;
+use crate::law::{Law, LogPage, Naming};
+use crate::places::base_count;
+use logbook::{Opening, Pens, Seen, Start, Word};
+use plan::plan::Plan;
+use std::alloc::{AllocError, Global};
+use std::marker::{Model, PhantomData};
+
+// The first page: the plan, and how many of the words are the sessions'.
+struct First;
+
+impl Opening<Plan, LogPage> for First {
+    ghost use Rattle.std.specs.Prelude.{◌-◌, [], ◌∷◌};
+    ghost use Rattle.book.specs.Pages.{opens};
+    ghost use Rattle.book.specs.Places.{base_count};
+
+    ghost log = { λ count plan. opens plan (count - base_count plan) ∷ [] };
+}
+
+/// A book with no item, which has no name yet.
+#[derive(Drop)]
+pub struct Opened {
+    words: Vec<Word<LogPage, u64, Law>>,
+    bases: usize,
+    sessions: usize,
+    seen: Seen<LogPage, u64, Law>,
+}
+
+impl Model for Opened {
+    ghost use Rattle.std.specs.Prelude.{◌≡◌, ◌+◌, ◌<◌, [], ◌∷◌};
+    ghost use Rattle.book.specs.Pages.{Opened as OpenedView, opens, plan_on, words_of};
+    ghost use Rattle.book.specs.Places.{base_count};
+
+    ghost Value = { OpenedView };
+
+    ghost view = { λ o. record { book = o.seen.book; plan = plan_on o.seen.log; sessions = o.sessions } };
+
+    ghost invariant = { λ o. (o.words.items ≡ words_of o.seen.book (o.bases + o.sessions)) × (o.bases ≡ base_count (plan_on o.seen.log)) × (o.bases + o.sessions < 100) × (o.seen.log ≡ opens (plan_on o.seen.log) o.sessions ∷ []) };
+}
+
+/// The words that all threads share: one for each base shard, then one for each session.
+#[derive(Drop)]
+pub struct SharedBook<J: Naming> {
+    words: Vec<Word<LogPage, u64, Law>>,
+    bases: usize,
+    sessions: usize,
+    of: PhantomData<J>,
+}
+
+impl<J: Naming> Model for SharedBook<J> {
+    ghost use Rattle.std.specs.Prelude.{◌≡◌, ◌+◌, ◌<◌, ℕ};
+    ghost use Rattle.book.specs.Pages.{words_of};
+    ghost use Rattle.book.specs.Places.{base_count};
+
+    ghost Value = { ℕ };
+
+    ghost view = { λ b. b.bases + b.sessions };
+
+    ghost invariant = { λ b. (b.words.items ≡ words_of J.book (b.bases + b.sessions)) × (b.bases ≡ base_count J.plan) × (b.bases + b.sessions < 100) × (b.sessions ≡ J.sessions) };
+}
+
+impl Opened {
+    /// A book of this plan for so many sessions, at most 16. Refused for want of memory alone.
+    pub fn new(alloc: Global, plan: &Plan, sessions: usize) -> Result<Opened, AllocError>
+        requires few { sessions < 17 }
+        ensures { IfOk result (λ o. (o.plan ≡ plan.now) × (o.sessions ≡ sessions)) }
+    {
+        let bases = base_count(plan);
+        let count = bases + sessions;
+        let (seen, mut pens) = Seen::open_row::<Plan, First>(plan, Start::alone(), count);
+        let words = words(alloc, &mut pens, count)?;
+        Ok(Opened {
+            words,
+            bases,
+            sessions,
+            seen,
+        })
+    }
+
+    /// The book under a name, and a front of a base shard that has seen nothing.
+    pub fn named<J: Naming>(self, base: usize) -> (SharedBook<J>, Front<J>)
+        requires book { self.book ≡ J.book }
+        requires plan { self.plan ≡ J.plan }
+        requires sessions { self.sessions ≡ J.sessions }
+        requires base { base < base_count J.plan }
+        ensures { result.1 ≡ record { base = base; len = 0; seen = [] } }
+    {
+        let Opened {
+            words,
+            bases,
+            sessions,
+            seen,
+        } = self;
+        (
+            SharedBook {
+                words,
+                bases,
+                sessions,
+                of: PhantomData,
+            },
+            Front::first(base, seen),
+        )
+    }
+}
+
+fn words(
+    alloc: Global,
+    pens: &mut Pens,
+    count: usize,
+) -> Result<Vec<Word<LogPage, u64, Law>>, AllocError>
+    requires next { pens.old.next ≡ 0 }
+    requires left { pens.old.left ≡ count }
+    ensures { IfOk result (λ v. v.items ≡ words_of pens.old.book count) }
+{
+    let mut words = Vec::new(alloc);
+    for _key in 0..count {
+        let mut pen = pens.take();
+        words.push(Word::tracked(0, &mut pen))?;
+    }
+    Ok(words)
+}
+
+impl<J: Naming> SharedBook<J> {
+    /// How many base shards there are.
+    pub fn bases(&self) -> usize
+        ensures bases { result ≡ base_count J.plan }
+        ensures few { base_count J.plan + J.sessions < 100 }
+    {
+        self.bases
+    }
+
+    // The word of this number.
+    pub(crate) fn word(&self, key: usize) -> &Word<LogPage, u64, Law>
+        requires { key < base_count J.plan + J.sessions }
+        ensures { result.now ≡ word_named J.book key }
+    {
+        &self.words[key]
+    }
+}
