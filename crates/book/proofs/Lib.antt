@@ -10,3 +10,7 @@ pub mod Prefixes
 pub mod Steps
 pub mod Words
 pub mod Fronts
+pub mod Replies
+pub mod Sessions
+pub mod Zeros
+pub mod Advances

@@ -10,3 +10,5 @@ pub mod Books
 pub mod Words
 pub mod Pages
 pub mod Fronts
+pub mod Sessions
+pub mod Replies

@@ -2,10 +2,14 @@
 #![tactic(auto)]
 
 pub mod book;
+pub mod cut;
 pub mod entry;
+pub mod floors;
 pub mod front;
 pub mod law;
 pub mod places;
+pub mod reply;
+pub mod session;
 pub mod shared;
 mod step;
 #[cfg(test)]

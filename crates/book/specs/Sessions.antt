@@ -1,0 +1,91 @@
+-- Cuts and sessions, each with the history that was seen.
+use Rattle.std.specs.Prelude.{◌≡◌, ℕ, ◌+◌, ◌<◌, ◌≤◌, List, [], map, length, slice_index_or, slice_set}
+use mathlib.Core.List.{IsPrefix}
+use Rattle.plan.specs.Layouts.{Layout, view_at}
+use Rattle.book.specs.Logs.{Change}
+use Rattle.book.specs.Places.{base_count}
+use Rattle.book.specs.Queries.{Line}
+use Rattle.book.specs.Histories.{Item, Lengths, len_at, Floors, floor_at, floor_of, Place as PlaceView}
+use Rattle.book.specs.Cuts.{fronts_of, IsWithin}
+use Rattle.book.specs.Words.{count_at}
+use Rattle.book.specs.Pages.{IsAdded}
+use Rattle.book.specs.declared.cut.Place.{Place}
+
+-- a cut, and the history that was seen with it
+pub record CutView : Type 0 where
+  pub lengths : Lengths
+  pub seen : List Item
+
+-- the fronts that the cut names
+abbrev pub fronts : Layout → CutView → List Line
+fronts p c = fronts_of p c.seen c.lengths
+
+-- a floor for each view and shard, and the history that was seen with them
+pub record FloorsView : Type 0 where
+  pub floors : Floors
+  pub seen : List Item
+
+-- a session: its number, how often it has answered, its floors, and the history that it has seen
+pub record SessionView : Type 0 where
+  pub session : ℕ
+  pub answered : ℕ
+  pub floors : Floors
+  pub seen : List Item
+
+-- the two cuts have the same lengths
+abbrev pub IsSame : Lengths → Lengths → Type 0
+IsSame c d = (s b : ℕ) → len_at c s b ≡ len_at d s b
+
+-- the session's word, and how many items of it were seen
+abbrev pub own_word : Layout → ℕ → ℕ
+own_word p session = base_count p + session
+
+abbrev pub own_items : Layout → ℕ → List Item → ℕ
+own_items p session h = count_at p (own_word p session) h
+
+-- a table of floors has a place for each shard of each view
+pub record IsTable (p : Layout) (floors : Floors) : Type 0 where
+  pub views : length floors ≡ length p.views
+  pub shards : (v : ℕ) → v < length p.views → length (slice_index_or floors v []) ≡ (view_at p v).shards
+
+-- the session has answered so often. Where nobody has moved its word, its floors are those of the history
+pub record IsSession (p : Layout) (n : ℕ) (x : SessionView) : Type 0 where
+  pub range : x.session < n
+  pub table : IsTable p x.floors
+  pub least : x.answered ≤ own_items p x.session x.seen
+  pub floors : own_items p x.session x.seen ≡ x.answered → (v j : ℕ) → v < length p.views → j < (view_at p v).shards → IsSame (floor_of p x.session v j x.seen) (floor_at x.floors v j)
+
+-- one more answer, by an item that stands at the end of what was then seen
+pub record IsAnswered (p : Layout) (x : SessionView) (i : Item) (floors : Floors) (y : SessionView) : Type 0 where
+  pub item : IsAdded p (own_word p x.session) x.seen i y.seen
+  pub session : y.session ≡ x.session
+  pub answered : y.answered ≡ x.answered + 1
+  pub after : y.floors ≡ floors
+
+-- the session is as it was, and its word was seen to have moved
+pub record IsStolen (p : Layout) (x y : SessionView) : Type 0 where
+  pub session : y.session ≡ x.session
+  pub answered : y.answered ≡ x.answered
+  pub same : y.floors ≡ x.floors
+  pub grown : IsPrefix x.seen y.seen
+  pub more : y.answered < own_items p y.session y.seen
+
+-- the floors after a read of shard j of view v
+abbrev pub with_floor : Floors → ℕ → ℕ → Lengths → Floors
+with_floor floors v j cut = slice_set floors v (slice_set (slice_index_or floors v []) j cut)
+
+-- the floors are cuts within the history
+pub record AreWithin (p : Layout) (x : FloorsView) : Type 0 where
+  pub table : IsTable p x.floors
+  pub within : (v j : ℕ) → v < length p.views → j < (view_at p v).shards → IsWithin p x.seen (floor_at x.floors v j)
+
+-- one length, and one front, set
+abbrev pub with_length : Lengths → ℕ → ℕ → ℕ → Lengths
+with_length cut s b n = slice_set cut s (slice_set (slice_index_or cut s []) b n)
+
+abbrev pub with_front : List Line → ℕ → ℕ → List Change → List Line
+with_front fs s b es = slice_set fs s (slice_set (slice_index_or fs s []) b es)
+
+-- the program's places as those of the definitions
+abbrev pub places_of : List Place → List PlaceView
+places_of own = map (λ (x : Place). record { base = x.base; index = x.index }) own

@@ -1,0 +1,58 @@
+//! Floors of a session.
+ghost use Rattle.std.specs.Prelude.{◌≡◌, ◌<◌, [], length, slice_index_or, replicate, IfOk, ℕ};
+ghost use Rattle.book.specs.Histories.{floor_at};
+ghost use Rattle.book.specs.Sessions.{with_floor, IsTable};
+
+use crate::cut::Lengths;
+use plan::plan::Plan;
+use std::alloc::{AllocError, Global};
+use std::marker::Model;
+
+/// A floor for each shard of each view.
+#[derive(Drop)]
+pub struct Floors {
+    rows: Vec<Vec<Lengths>>,
+}
+
+impl Model for Floors {
+    ghost use Rattle.std.specs.Prelude.{List, map};
+    ghost use Rattle.book.specs.Histories.{Lengths as LengthsView};
+
+    ghost Value = { List (List LengthsView) };
+
+    ghost view = { λ f. map (λ v. v.items) f.rows.items };
+}
+
+impl Floors {
+    /// All zeros.
+    pub fn zeros(alloc: Global, plan: &Plan) -> Result<Floors, AllocError>
+        ensures table { IfOk result (λ f. IsTable plan.now f) }
+        ensures zeros { IfOk result (λ f. (v j : ℕ) → floor_at f v j ≡ []) }
+    {
+        let mut rows = Vec::new(alloc);
+        for view in 0..plan.views() {
+            rows.push(zero_row(alloc, plan.view(view).shards())?)?;
+        }
+        Ok(Floors { rows })
+    }
+
+    /// Sets the floor at a shard of a view.
+    pub fn set(&mut self, view: usize, shard: usize, cut: Lengths)
+        requires view { view < length self.old }
+        requires shard { shard < length (slice_index_or self.old view []) }
+        ensures { self.new ≡ with_floor self.old view shard cut }
+    {
+        let row = &mut self.rows[view];
+        row[shard] = cut;
+    }
+}
+
+fn zero_row(alloc: Global, count: usize) -> Result<Vec<Lengths>, AllocError>
+    ensures { IfOk result (λ v. v.items ≡ replicate count []) }
+{
+    let mut row = Vec::new(alloc);
+    for _shard in 0..count {
+        row.push(Lengths::empty(alloc))?;
+    }
+    Ok(row)
+}

@@ -1,0 +1,155 @@
+//! Replies of a base shard, and what a session knows from them.
+ghost use Rattle.std.specs.Prelude.{◌≡◌, ◌+◌, ◌<◌, ◌≤◌, length, MatchBool, IfSome, IsSome, IsTrue, IfOk, IfErr, ℕ, slice_get, Some, true};
+ghost use mathlib.Core.List.{IsPrefix};
+ghost use Rattle.row.specs.Bags.{Each};
+ghost use Rattle.row.specs.Cells.{shard};
+ghost use Rattle.book.specs.Entries.{change_of};
+ghost use Rattle.book.specs.Fronts.{IsAppended, IsMoved, entries, authors};
+ghost use Rattle.book.specs.Histories.{Author, log_of, write};
+ghost use Rattle.book.specs.Legal.{limit};
+ghost use Rattle.book.specs.Logs.{fits, key_of, lawful};
+ghost use Rattle.book.specs.Places.{layout_of, shard_of};
+ghost use Rattle.book.specs.Replies.{WrittenView, IsAfter, IsWhole, longer};
+
+use crate::entry::Entry;
+use crate::front::Front;
+use crate::law::{Law, LogPage, Naming};
+use crate::shared::SharedBook;
+use crate::step::{learn, look_at};
+use logbook::Seen;
+use std::marker::{Model, PhantomData};
+
+/// The reply to an accepted write.
+#[derive(Drop)]
+pub struct Written<J: Naming> {
+    session: u64,
+    number: u64,
+    base: usize,
+    index: u64,
+    entry: Entry,
+    seen: Seen<LogPage, u64, Law>,
+    of: PhantomData<J>,
+}
+
+impl<J: Naming> Model for Written<J> {
+    ghost use Rattle.std.specs.Prelude.{◌≡◌};
+    ghost use Rattle.book.specs.Pages.{IsLogOf, history_of};
+    ghost use Rattle.book.specs.Entries.{change_of};
+    ghost use Rattle.book.specs.Replies.{WrittenView, IsWritten};
+
+    ghost Value = { WrittenView };
+
+    ghost view = { λ w. record { session = w.session; number = w.number; base = w.base; index = w.index; entry = change_of w.entry; seen = history_of w.seen.log } };
+
+    ghost invariant = { λ w. (w.seen.book ≡ J.book) × IsLogOf J.plan J.sessions w.seen.log × IsWritten (record { session = w.session; number = w.number; base = w.base; index = w.index; entry = change_of w.entry; seen = history_of w.seen.log }) };
+}
+
+/// What a session has seen, as the longer of two parts.
+#[derive(Drop)]
+pub struct Part<J: Naming> {
+    first: Seen<LogPage, u64, Law>,
+    second: Seen<LogPage, u64, Law>,
+    of: PhantomData<J>,
+}
+
+impl<J: Naming> Model for Part<J> {
+    ghost use Rattle.std.specs.Prelude.{◌≡◌, ◌⊎◌, List};
+    ghost use mathlib.Core.List.{IsPrefix};
+    ghost use Rattle.book.specs.Histories.{Item};
+    ghost use Rattle.book.specs.Pages.{IsLogOf, history_of};
+    ghost use Rattle.book.specs.Replies.{longer};
+
+    ghost Value = { List Item };
+
+    ghost view = { λ x. longer (history_of x.first.log) (history_of x.second.log) };
+
+    ghost invariant = { λ x. (x.first.book ≡ J.book) × (x.second.book ≡ J.book) × IsLogOf J.plan J.sessions x.first.log × IsLogOf J.plan J.sessions x.second.log };
+}
+
+impl<J: Naming> Front<J> {
+    /// Appends, and gives the reply; or the entry back where the log has moved.
+    pub fn write(
+        &mut self,
+        book: &SharedBook<J>,
+        session: u64,
+        number: u64,
+        entry: Entry,
+    ) -> Result<Written<J>, Entry>
+        requires fits { fits (layout_of J.plan self.old.base) (change_of entry) ≡ true }
+        requires shard { shard_of J.plan self.old.base ≡ shard (key_of (layout_of J.plan self.old.base).key (change_of entry)) (layout_of J.plan self.old.base).shards }
+        requires lawful { lawful (layout_of J.plan self.old.base).key (entries self.old) (change_of entry) ≡ true }
+        requires room { self.old.len < limit }
+        requires number { Each (λ (a : Author). a.session ≡ session → a.number < number) (authors self.old) }
+        ensures accepted { IfOk result (λ w. IsAppended J.plan self.old session number (change_of entry) self.new × (w ≡ record { session = session; number = number; base = self.old.base; index = self.old.len; entry = change_of entry; seen = self.new.seen })) }
+        ensures moved { IfErr result (λ e. IsMoved self.old self.new × (e ≡ entry)) }
+    {
+        let index = self.len;
+        if !self.append(book, session, number, &entry) {
+            return Err(entry);
+        }
+        Ok(Written {
+            session,
+            number,
+            base: self.base,
+            index,
+            entry,
+            seen: self.seen.again(),
+            of: PhantomData,
+        })
+    }
+
+    /// Sees the log as it is, and takes all of it.
+    pub fn catch_up(&mut self, book: &SharedBook<J>)
+        ensures base { self.new.base ≡ self.old.base }
+        ensures seen { IsPrefix self.old.seen self.new.seen }
+        ensures whole { IsWhole self.new }
+    {
+        self.len = look_at(book, self.base, &mut self.seen);
+    }
+
+    /// Takes the reply to a write that was sent after this front had all that was seen. It is not the reply where its place was seen before.
+    pub fn settle(&mut self, reply: &Written<J>) -> bool
+        requires whole { IsWhole self.old }
+        requires base { self.old.base ≡ reply.now.base }
+        ensures sure { self.old.len ≤ reply.now.index → IsTrue result }
+        ensures told { MatchBool result (IsAfter self.old.seen (write reply.now.session reply.now.number reply.now.base reply.now.entry) reply.now.base reply.now.index self.new.seen) (self.new ≡ self.old) }
+    {
+        if reply.index < self.len {
+            return false;
+        }
+        learn::<J>(&mut self.seen, &reply.seen);
+        true
+    }
+
+    /// Takes the front that decided a refusal. What has then been seen has that very log.
+    pub fn adopt(self, other: Front<J>) -> Option<Part<J>>
+        requires whole { IsWhole self }
+        requires other { IsWhole other }
+        requires base { self.base ≡ other.base }
+        ensures sure { self.len ≤ other.len → IsSome result }
+        ensures told { IfSome result (λ p. IsPrefix self.seen p × IsPrefix other.seen p × (log_of other.base p ≡ log_of other.base other.seen)) }
+    {
+        if other.len < self.len {
+            return None;
+        }
+        let mut both = self.seen.again();
+        learn::<J>(&mut both, &other.seen);
+        let Front {
+            base: _,
+            len: _,
+            seen: first,
+            of: _,
+        } = self;
+        let Front {
+            base: _,
+            len: _,
+            seen: second,
+            of: _,
+        } = other;
+        Some(Part {
+            first,
+            second,
+            of: PhantomData,
+        })
+    }
+}

@@ -1,0 +1,199 @@
+//! The word of a session.
+ghost use Rattle.std.specs.Prelude.{◌≡◌, ◌+◌, ◌<◌, ◌≤◌, ◌^◌, ◌⊎◌, length, MatchBool, slice_get, Some, IfOk, ℕ, []};
+ghost use mathlib.Core.List.{IsPrefix};
+ghost use Rattle.row.specs.Bags.{Each};
+ghost use Rattle.row.specs.Cells.{datum_of};
+ghost use Rattle.plan.specs.Layouts.{view_at};
+ghost use Rattle.book.specs.Cuts.{IsAtMost};
+ghost use Rattle.book.specs.Histories.{floor_at, read, fence, view_shard};
+ghost use Rattle.book.specs.Legal.{IsOwn, IsPast, IsLegal, EachShard};
+ghost use Rattle.book.specs.Queries.{answer as answer_of};
+ghost use Rattle.book.specs.Sessions.{fronts, with_floor, places_of, IsAnswered, IsStolen};
+
+use crate::cut::{Cut, Cuts, Lengths, Place};
+use crate::floors::Floors;
+use crate::front::Front;
+use crate::law::{Add, Law, LogPage, Naming};
+use crate::shared::SharedBook;
+use crate::step::{learn, try_add};
+use logbook::{Plain, Seen};
+use plan::plan::Plan;
+use row::row::Row;
+use row::value::Value;
+use std::alloc::{AllocError, Global};
+use std::marker::{Model, PhantomData};
+
+/// A session: how often it has answered, its floors, and what it has seen.
+#[derive(Drop)]
+pub struct SessionWord<J: Naming> {
+    number: usize,
+    answered: u64,
+    floors: Floors,
+    seen: Seen<LogPage, u64, Law>,
+    of: PhantomData<J>,
+}
+
+impl<J: Naming> Model for SessionWord<J> {
+    ghost use Rattle.std.specs.Prelude.{◌≡◌};
+    ghost use Rattle.book.specs.Pages.{IsLogOf, history_of};
+    ghost use Rattle.book.specs.Sessions.{SessionView, IsSession};
+
+    ghost Value = { SessionView };
+
+    ghost view = { λ x. record { session = x.number; answered = x.answered; floors = x.floors; seen = history_of x.seen.log } };
+
+    ghost invariant = { λ x. (x.seen.book ≡ J.book) × IsLogOf J.plan J.sessions x.seen.log × IsSession J.plan J.sessions (record { session = x.number; answered = x.answered; floors = x.floors; seen = history_of x.seen.log }) };
+}
+
+/// What an answer asks for.
+#[derive(Drop)]
+pub struct Reading<'a> {
+    session: usize,
+    view: usize,
+    key: &'a Value,
+    rows: &'a Vec<Row>,
+    cut: &'a Lengths,
+}
+
+impl<'a> Plain<Reading<'a>, LogPage, u64> for Add {
+    ghost use Rattle.std.specs.Prelude.{None};
+    ghost use Rattle.book.specs.Histories.{read};
+    ghost use Rattle.book.specs.Pages.{adds};
+    ghost use Rattle.row.specs.Cells.{datum_of};
+
+    ghost ask = { λ r. adds (read r.session r.view (datum_of r.key.now) r.rows.now.items r.cut.now) };
+
+    ghost state = { λ r. None };
+}
+
+/// What a fence asks for.
+#[derive(Drop)]
+pub struct Fencing<'a> {
+    session: usize,
+    own: &'a Vec<Place>,
+    floors: &'a Floors,
+}
+
+impl<'a> Plain<Fencing<'a>, LogPage, u64> for Add {
+    ghost use Rattle.std.specs.Prelude.{None};
+    ghost use Rattle.book.specs.Histories.{fence};
+    ghost use Rattle.book.specs.Pages.{adds};
+    ghost use Rattle.book.specs.Sessions.{places_of};
+
+    ghost ask = { λ f. adds (fence f.session (places_of f.own.now.items) f.floors.now) };
+
+    ghost state = { λ f. None };
+}
+
+impl<J: Naming> SessionWord<J> {
+    /// A session that has answered nothing, and has seen what the front has.
+    pub fn first(
+        alloc: Global,
+        plan: &Plan,
+        number: usize,
+        front: &Front<J>,
+    ) -> Result<SessionWord<J>, AllocError>
+        requires plan { plan.now ≡ J.plan }
+        requires number { number < J.sessions }
+        ensures { IfOk result (λ s. (s.session ≡ number) × (s.answered ≡ 0) × (s.seen ≡ front.now.seen) × ((v j : ℕ) → floor_at s.floors v j ≡ [])) }
+    {
+        let floors = Floors::zeros(alloc, plan)?;
+        Ok(SessionWord {
+            number,
+            answered: 0,
+            floors,
+            seen: front.seen.again(),
+            of: PhantomData,
+        })
+    }
+
+    /// Of what the two have seen one begins the other. Afterwards both have seen the same, which is no less than either had.
+    pub fn meet(&mut self, other: &mut SessionWord<J>)
+        ensures one { IsPrefix self.old.seen other.old.seen ⊎ IsPrefix other.old.seen self.old.seen }
+        ensures both { self.new.seen ≡ other.new.seen }
+        ensures this { IsPrefix self.old.seen self.new.seen }
+        ensures that { IsPrefix other.old.seen other.new.seen }
+        ensures floors { (self.new.floors ≡ self.old.floors) × (other.new.floors ≡ other.old.floors) }
+        ensures answered { (self.new.answered ≡ self.old.answered) × (other.new.answered ≡ other.old.answered) }
+        ensures sessions { (self.new.session ≡ self.old.session) × (other.new.session ≡ other.old.session) }
+    {
+        learn::<J>(&mut self.seen, &other.seen);
+        other.seen = self.seen.again();
+    }
+
+    /// Answers a read over a cut, and says whether it did. It did not where the session's word has moved.
+    pub fn answer(
+        &mut self,
+        book: &SharedBook<J>,
+        view: usize,
+        shard: usize,
+        key: &Value,
+        rows: &Vec<Row>,
+        cut: Cut<J>,
+    ) -> bool
+        requires view { view < length J.plan.views }
+        requires shard { shard ≡ view_shard J.plan view (datum_of key.now) }
+        requires within { shard < (view_at J.plan view).shards }
+        requires floor { IsAtMost (floor_at self.old.floors view shard) cut.lengths }
+        requires rows { rows.now.items ≡ answer_of J.plan (fronts J.plan cut) view (datum_of key.now) }
+        requires room { self.old.answered + 1 < 2 ^ 64 }
+        ensures legal { IsLegal J.plan J.sessions self.new.seen }
+        ensures told { MatchBool result (IsAnswered J.plan self.old (read self.old.session view (datum_of key.now) rows.now.items cut.lengths) (with_floor self.old.floors view shard cut.lengths) self.new) (IsStolen J.plan self.old self.new) }
+    {
+        let Cut {
+            lengths,
+            seen,
+            of: _,
+        } = cut;
+        learn::<J>(&mut self.seen, &seen);
+        let key_of_word = book.bases() + self.number;
+        let asked = Reading {
+            session: self.number,
+            view,
+            key,
+            rows,
+            cut: &lengths,
+        };
+        let answered = self.answered;
+        let found = try_add::<J, Reading, Add>(book, key_of_word, answered, &mut self.seen, &asked);
+        if found == answered {
+            self.answered = answered + 1;
+            self.floors.set(view, shard, lengths);
+            true
+        } else {
+            false
+        }
+    }
+
+    /// Ends a fence with a cut for each shard of each view, and says whether it did. It did not where the session's word has moved.
+    pub fn fence(&mut self, book: &SharedBook<J>, own: &Vec<Place>, cuts: Cuts<J>) -> bool
+        requires floors { EachShard J.plan (λ v j. IsAtMost (floor_at self.old.floors v j) (floor_at cuts.floors v j)) }
+        requires past { EachShard J.plan (λ v j. Each (IsPast J.plan (floor_at cuts.floors v j)) (places_of own.now.items)) }
+        requires own { Each (IsOwn J.plan self.old.seen self.old.session) (places_of own.now.items) }
+        requires room { self.old.answered + 1 < 2 ^ 64 }
+        ensures legal { IsLegal J.plan J.sessions self.new.seen }
+        ensures told { MatchBool result (IsAnswered J.plan self.old (fence self.old.session (places_of own.now.items) cuts.floors) cuts.floors self.new) (IsStolen J.plan self.old self.new) }
+    {
+        let Cuts {
+            floors,
+            seen,
+            of: _,
+        } = cuts;
+        learn::<J>(&mut self.seen, &seen);
+        let key_of_word = book.bases() + self.number;
+        let asked = Fencing {
+            session: self.number,
+            own,
+            floors: &floors,
+        };
+        let answered = self.answered;
+        let found = try_add::<J, Fencing, Add>(book, key_of_word, answered, &mut self.seen, &asked);
+        if found == answered {
+            self.answered = answered + 1;
+            self.floors = floors;
+            true
+        } else {
+            false
+        }
+    }
+}
