@@ -1,5 +1,5 @@
 -- What a try tells of a front.
-use Rattle.std.proofs.Common.{◌≡◌, ◌≢◌, ℕ, zero, suc, ◌+◌, ◌-◌, ◌<◌, ◌≤◌, ◌==◌, Bool, true, false, cond, List, [], ◌∷◌, ◌++◌, length, take, refl, ap, sym, ◌∙◌, subst, arith, append_assoc, append-nil, flat_map, length-append, MatchBool, take_all, slice_get, Some}
+use Rattle.std.proofs.Common.{◌≡◌, ◌≢◌, ℕ, ◌+◌, ◌<◌, ◌≤◌, ◌==◌, Bool, true, false, cond, List, [], ◌∷◌, ◌++◌, length, take, refl, ap, sym, ◌∙◌, subst, arith, append-nil, flat_map, length-append, take_all}
 use Rattle.std.proofs.lemmas.List.Concat.{flat_map-append}
 use Rattle.std.proofs.lemmas.List.{take-append-le, take-take}
 use Rattle.std.proofs.lemmas.Bool.Decides.{nat_tests}
@@ -8,13 +8,13 @@ use Rattle.row.specs.Cells.{shard}
 use Rattle.row.specs.Bags.{Each}
 use Rattle.plan.specs.Layouts.{Layout}
 use Rattle.book.specs.Logs.{Change, lawful, fits, key_of}
-use Rattle.book.specs.Places.{base_count, layout_of, shard_of}
+use Rattle.book.specs.Places.{layout_of, shard_of}
 use Rattle.book.specs.Histories.{Item, write, Author, entry_in, log_of, author_in, authors_of}
 use Rattle.book.specs.Words.{count_at}
 use Rattle.book.specs.Legal.{AllowsWrite, limit}
 use Rattle.book.specs.Pages.{Page, history_of, IsAdded}
 use Rattle.book.specs.Fronts.{FrontView, entries, authors, IsFront, IsAppended, IsMoved, IsAgreed}
-use Rattle.book.proofs.Parts.{length_log, flat_later, entry_blind, author_blind, IsBlind, count_append}
+use Rattle.book.proofs.Parts.{length_log, flat_later, entry_blind, author_blind, IsBlind}
 use Rattle.book.proofs.Steps.{rest_of}
 
 abbrev pub front_at : ℕ → ℕ → List Page → FrontView

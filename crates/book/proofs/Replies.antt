@@ -1,5 +1,5 @@
 -- What a session knows from a reply.
-use Rattle.std.proofs.Common.{◌≡◌, ◌≢◌, ℕ, zero, suc, ◌+◌, ◌-◌, ◌<◌, ◌≤◌, ◌==◌, nat_le, Bool, true, false, cond, List, [], ◌∷◌, ◌++◌, length, slice_get, take, drop, length-take-le, take-append-drop, Some, refl, ap, sym, ◌∙◌, subst, arith, append_assoc, length-append, ◌⊎◌, inl, inr}
+use Rattle.std.proofs.Common.{◌≡◌, ℕ, zero, suc, ◌+◌, ◌-◌, ◌<◌, ◌≤◌, ◌==◌, nat_le, Bool, true, false, cond, List, [], ◌∷◌, ◌++◌, length, slice_get, take, drop, length-take-le, take-append-drop, Some, refl, ap, sym, ◌∙◌, subst, arith, append_assoc, length-append, ◌⊎◌, inl, inr}
 use Rattle.std.proofs.lemmas.List.Concat.{flat_map-append}
 use Rattle.std.proofs.lemmas.Bool.Decides.{nat_tests}
 use mathlib.Core.List.{IsPrefix}
@@ -8,9 +8,9 @@ use Rattle.book.specs.Logs.{Change}
 use Rattle.book.specs.Histories.{Item, write, read, fence, Author, log_of, authors_of, entry_in, author_in}
 use Rattle.book.specs.Pages.{Page, history_of}
 use Rattle.book.specs.Fronts.{FrontView, IsFront, IsAppended}
-use Rattle.book.specs.Replies.{WrittenView, IsWritten, IsAfter, longer}
-use Rattle.book.proofs.Prefixes.{prefix_get, prefix_either, prefix_shorter, prefix_whole, prefix_length, prefix_self}
-use Rattle.book.proofs.Steps.{rest_of, seen_more}
+use Rattle.book.specs.Replies.{IsWritten, IsAfter, longer}
+use Rattle.book.proofs.Prefixes.{prefix_get, prefix_whole, prefix_length, prefix_self}
+use Rattle.book.proofs.Steps.{rest_of}
 use Rattle.book.proofs.Fronts.{length_authors}
 
 abbrev by : ℕ → ℕ → Author

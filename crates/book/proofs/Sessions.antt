@@ -1,5 +1,5 @@
 -- What a session may answer, and what it knows then.
-use Rattle.std.proofs.Common.{◌≡◌, ◌≢◌, ℕ, zero, suc, ◌+◌, ◌-◌, ◌<◌, ◌≤◌, ◌==◌, Bool, true, false, cond, ◌&&◌, List, [], ◌∷◌, ◌++◌, length, slice_index_or, slice_set, refl, ap, sym, ◌∙◌, subst, arith, append_assoc, append-nil, flat_map, length-append, get_or-set_same, get_or-set_other, length-set, ◌⊎◌, inl, inr, All, slice_get, Some}
+use Rattle.std.proofs.Common.{◌≡◌, ◌≢◌, ℕ, ◌+◌, ◌<◌, ◌≤◌, ◌==◌, Bool, true, false, ◌&&◌, List, [], ◌∷◌, ◌++◌, length, slice_index_or, slice_set, refl, ap, sym, ◌∙◌, subst, arith, append_assoc, append-nil, flat_map, get_or-set_same, get_or-set_other, length-set, ◌⊎◌, inl, inr}
 use Rattle.std.proofs.lemmas.List.Concat.{flat_map-append}
 use Rattle.std.proofs.lemmas.Bool.Decides.{nat_tests, eqb_tells}
 use mathlib.Core.List.{IsPrefix}
@@ -7,14 +7,13 @@ use Rattle.row.specs.Cells.{Datum, Cells, shard}
 use Rattle.row.specs.Bags.{Each}
 use Rattle.row.proofs.BagLemmas.{Each-weaker}
 use Rattle.plan.specs.Layouts.{Layout, view_at}
-use Rattle.book.specs.Places.{base_count}
 use Rattle.book.specs.Queries.{answer}
 use Rattle.book.specs.Words.{word_of, count_at}
 use Rattle.book.specs.Cuts.{fronts_of, IsWithin, IsAtMost}
-use Rattle.book.specs.Legal.{IsPast, IsOwn, EachShard, AllowsRead, AllowsFence}
-use Rattle.book.specs.Histories.{Item, write, read, fence, Lengths, len_at, Floors, Place, floor_in, floor_of, floor_at, last_or}
-use Rattle.book.specs.Pages.{Page, adds, history_of, IsLogOf, IsAdded, IsAsk}
-use Rattle.book.specs.Sessions.{SessionView, IsSame, own_word, own_items, IsTable, IsSession, IsAnswered, IsStolen, with_floor, FloorsView, AreWithin}
+use Rattle.book.specs.Legal.{IsPast, IsOwn, EachShard, AllowsRead}
+use Rattle.book.specs.Histories.{Item, read, fence, Lengths, len_at, Floors, Place, floor_in, floor_of, floor_at, last_or}
+use Rattle.book.specs.Pages.{Page, adds, history_of, IsAdded, IsAsk}
+use Rattle.book.specs.Sessions.{SessionView, IsSame, own_word, own_items, IsTable, IsSession, IsAnswered, IsStolen, with_floor, AreWithin}
 use Rattle.book.proofs.Parts.{count_append, flat_later, floor_blind, IsBlind}
 use Rattle.book.proofs.Later.{within_later, fronts_later, floor_later, own_later}
 use Rattle.book.proofs.Steps.{rest_of, count_own}

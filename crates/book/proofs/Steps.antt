@@ -1,17 +1,17 @@
 -- The steps keep the rule.
-use Rattle.std.proofs.Common.{◌≡◌, ◌≢◌, ℕ, zero, suc, ◌+◌, ◌-◌, ◌<◌, ◌≤◌, ◌==◌, Bool, true, false, cond, List, [], ◌∷◌, ◌++◌, length, map, slice_index_or, slice_set, Option, refl, ap, sym, ◌∙◌, subst, arith, append_assoc, append-nil, flat_map, length-append, inl, inr, None, ◌⊎◌, length-set, get_or-set_same, get_or-set_other, MatchBool}
+use Rattle.std.proofs.Common.{◌≡◌, ◌≢◌, ℕ, ◌+◌, ◌<◌, ◌≤◌, ◌==◌, Bool, true, false, cond, List, [], ◌∷◌, ◌++◌, length, map, slice_index_or, slice_set, Option, refl, ap, sym, ◌∙◌, subst, arith, append_assoc, append-nil, inl, inr, None, ◌⊎◌, length-set, get_or-set_same, get_or-set_other}
 use Rattle.std.proofs.lemmas.List.Concat.{flat_map-append}
 use Rattle.std.proofs.lemmas.List.{map-append}
 use Rattle.std.proofs.lemmas.Bool.Decides.{nat_tests, eqb_tells}
 use mathlib.Core.List.{IsPrefix}
 use prog.Atomic.{either}
-use Rattle.logbook.specs.Pages.{Cell, cell, Act, keeps, Nib, no_nib, step, Moves, Goes, View, Valid, Runs, cells_after, nib_after}
+use Rattle.logbook.specs.Pages.{Cell, Act, keeps, no_nib, step, Moves, View, Valid, Runs, cells_after, nib_after}
 use Rattle.plan.specs.Layouts.{Layout}
 use Rattle.book.specs.Histories.{Item}
 use Rattle.book.specs.Places.{base_count}
 use Rattle.book.specs.Words.{word_of, count_at}
-use Rattle.book.specs.Legal.{Allows, IsLegal}
-use Rattle.book.specs.Pages.{Page, opens, adds, item_in, history_of, pages, IsLogOf, IsKeptBy, IsKept, IsLook, Looks, IsAdded, IsTry, Tries, IsAsk}
+use Rattle.book.specs.Legal.{Allows}
+use Rattle.book.specs.Pages.{Page, opens, adds, item_in, history_of, IsLogOf, IsKeptBy, IsKept, Looks, IsAdded, IsTry, Tries, IsAsk}
 use Rattle.book.proofs.Parts.{count_append}
 use Rattle.book.proofs.Later.{allows_later, legal_more}
 

@@ -1,10 +1,10 @@
 -- Floors that are all zeros.
-use Rattle.std.proofs.Common.{◌≡◌, ℕ, zero, suc, ◌+◌, ◌<◌, ◌≤◌, List, [], ◌∷◌, ◌++◌, length, map, take, replicate, slice_index_or, refl, ap, sym, ◌∙◌, subst, arith, take_all, flat_map}
+use Rattle.std.proofs.Common.{◌≡◌, ℕ, zero, suc, ◌<◌, List, [], ◌∷◌, length, map, replicate, slice_index_or, refl, ap, sym, ◌∙◌, arith}
 use Rattle.std.proofs.lemmas.List.{length-map, length-replicate}
 use Rattle.plan.specs.Layouts.{ViewLayout, Layout, no_view, view_at}
-use Rattle.book.specs.Histories.{Lengths, len_at, Floors, floor_at, floor_of, floor_in, last_or}
+use Rattle.book.specs.Histories.{Lengths, len_at, Floors, floor_at, floor_in, last_or}
 use Rattle.book.specs.Pages.{Page, history_of}
-use Rattle.book.specs.Sessions.{SessionView, IsTable, IsSession, own_word}
+use Rattle.book.specs.Sessions.{IsTable, IsSession, own_word}
 use Rattle.book.proofs.Parts.{flat_quiet, floor_blind}
 use Rattle.book.proofs.Sessions.{session_at}
 

@@ -1,6 +1,5 @@
 -- What a reply of a base shard says, and what a session knows from it.
-use Rattle.std.specs.Prelude.{◌≡◌, ℕ, ◌+◌, ◌<◌, ◌≤◌, ◌⊎◌, nat_le, cond, List, [], ◌∷◌, ◌++◌, length, slice_get, Some}
-use mathlib.Core.List.{IsPrefix}
+use Rattle.std.specs.Prelude.{◌≡◌, ℕ, nat_le, cond, List, ◌∷◌, ◌++◌, length, slice_get, Some}
 use Rattle.book.specs.Logs.{Change}
 use Rattle.book.specs.Histories.{Item, log_of, authors_of}
 use Rattle.book.specs.Fronts.{FrontView}

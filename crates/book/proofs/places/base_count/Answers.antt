@@ -1,6 +1,5 @@
-use Rattle.std.proofs.Common.{◌≡◌, ◌+◌, ◌<◌, ◌≤◌, length, sym, ◌∙◌, ap, subst, arith}
+use Rattle.std.proofs.Common.{◌<◌, length, sym, ◌∙◌, ap, arith}
 use Rattle.plan.specs.Layouts.{TableLayout}
-use Rattle.book.specs.Places.{shards_before}
 use Rattle.book.proofs.PlaceLaws.{before_none, before_more}
 use Rattle.book.proofs.places.base_count.Goals as goal
 

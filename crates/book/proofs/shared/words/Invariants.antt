@@ -1,4 +1,4 @@
-use Rattle.std.proofs.Common.{◌≡◌, ◌+◌, ◌-◌, ◌≤◌}
+use Rattle.std.proofs.Common.{◌≡◌, ◌-◌}
 use Rattle.book.specs.Pages.{words_of}
 use Rattle.book.proofs.shared.words.Given as goal
 

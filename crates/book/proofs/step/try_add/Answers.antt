@@ -1,5 +1,4 @@
-use Rattle.std.proofs.Common.{◌≡◌, ◌+◌, ap, sym, ◌∙◌}
-use Rattle.book.specs.Pages.{word_named}
+use Rattle.std.proofs.Common.{ap, sym, ◌∙◌}
 use Rattle.book.proofs.Steps.{ask_moves}
 use Rattle.book.proofs.step.try_add.Goals as goal
 

@@ -1,6 +1,3 @@
-use Rattle.std.proofs.Common.{◌≡◌, ap, sym, ◌∙◌}
-use Rattle.book.specs.Cuts.{fronts_of}
-use Rattle.book.specs.Pages.{history_of}
 use Rattle.book.proofs.Steps.{seen_more}
 use Rattle.book.proofs.Advances.{cut_within, cut_fronts}
 use Rattle.book.proofs.cut.Cut.advance.Goals as goal

@@ -1,4 +1,4 @@
-use Rattle.std.proofs.Common.{◌≡◌, ◌≤◌, ap, sym, ◌∙◌, arith, length, ◌⊎◌}
+use Rattle.std.proofs.Common.{◌≡◌, ◌≤◌, ap, arith, length, ◌⊎◌}
 use mathlib.Core.List.{IsPrefix}
 use Rattle.book.specs.Histories.{log_of}
 use Rattle.book.specs.Pages.{history_of}

@@ -1,8 +1,8 @@
-use Rattle.std.proofs.Common.{◌≡◌, ap, sym, ◌∙◌, arith, refl, le_of_eq}
+use Rattle.std.proofs.Common.{sym, arith, refl}
 use Rattle.book.specs.Histories.{write}
 use Rattle.book.specs.Entries.{change_of}
 use Rattle.book.proofs.Steps.{told_yes, told_no}
-use Rattle.book.proofs.Fronts.{appended, appended_front, front_later, moved, may_write, front_count}
+use Rattle.book.proofs.Fronts.{appended, appended_front, moved, may_write, front_count}
 use Rattle.book.proofs.front.Front.append.Goals as goal
 
 pub try_add-found-requires-clause-ask : goal.try_add-found-requires-clause-ask

@@ -1,4 +1,4 @@
-use Rattle.std.proofs.Common.{◌≡◌, ◌≤◌, ap, sym, ◌∙◌, arith, refl}
+use Rattle.std.proofs.Common.{sym, ◌∙◌, arith}
 use Rattle.book.specs.Pages.{history_of}
 use Rattle.book.proofs.Parts.{length_log}
 use Rattle.book.proofs.Steps.{seen_more}

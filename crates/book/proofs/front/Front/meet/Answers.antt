@@ -1,5 +1,4 @@
-use Rattle.std.proofs.Common.{◌≡◌, ℕ, ap, sym, ◌∙◌, subst}
-use Rattle.book.specs.Fronts.{IsAgreed, IsFront}
+use Rattle.book.specs.Fronts.{IsFront}
 use Rattle.book.proofs.Steps.{seen_more}
 use Rattle.book.proofs.Fronts.{front_at, entries_later, agreed}
 use Rattle.book.proofs.front.Front.meet.Goals as goal

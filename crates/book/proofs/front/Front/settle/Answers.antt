@@ -1,5 +1,5 @@
-use Rattle.std.proofs.Common.{◌≡◌, ℕ, ◌≤◌, ap, sym, ◌∙◌, arith, length, slice_get, Some}
-use Rattle.book.specs.Histories.{log_of, authors_of}
+use Rattle.std.proofs.Common.{◌≡◌, ◌≤◌, arith, length}
+use Rattle.book.specs.Histories.{log_of}
 use Rattle.book.specs.Pages.{history_of}
 use Rattle.book.specs.Entries.{change_of}
 use Rattle.book.proofs.Replies.{stands_after}

@@ -1,5 +1,4 @@
-use Rattle.std.proofs.Common.{◌≡◌, ap, sym, ◌∙◌, subst}
-use Rattle.book.specs.Fronts.{IsAppended, IsFront, FrontView}
+use Rattle.std.proofs.Common.{sym}
 use Rattle.book.specs.Entries.{change_of}
 use Rattle.book.proofs.Replies.{written}
 use Rattle.book.proofs.front.Front.write.Goals as goal

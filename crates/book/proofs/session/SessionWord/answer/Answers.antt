@@ -1,5 +1,4 @@
-use Rattle.std.proofs.Common.{◌≡◌, ℕ, ◌+◌, ◌<◌, ap, sym, ◌∙◌, arith, refl, subst}
-use Rattle.book.specs.Histories.{read}
+use Rattle.std.proofs.Common.{◌+◌, ap, sym, refl}
 use Rattle.book.proofs.Prefixes.{prefix_trans}
 use Rattle.book.proofs.Steps.{told_yes, told_no}
 use Rattle.book.proofs.Sessions.{session_later, read_asked, read_told, answered, stolen}

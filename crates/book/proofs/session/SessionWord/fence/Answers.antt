@@ -1,4 +1,4 @@
-use Rattle.std.proofs.Common.{◌≡◌, ℕ, ◌+◌, ◌<◌, ap, sym, ◌∙◌, arith, refl, subst}
+use Rattle.std.proofs.Common.{◌+◌, ap, sym, refl}
 use Rattle.book.proofs.Prefixes.{prefix_trans}
 use Rattle.book.proofs.Steps.{told_yes, told_no}
 use Rattle.book.proofs.Sessions.{session_later, fence_asked, fence_told, answered, stolen}

@@ -1,4 +1,3 @@
-use Rattle.std.proofs.Common.{◌≡◌}
 use Rattle.book.proofs.Zeros.{zero_session}
 use Rattle.book.proofs.session.SessionWord.first.Goals as goal
 

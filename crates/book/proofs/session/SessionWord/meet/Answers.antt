@@ -1,4 +1,3 @@
-use Rattle.std.proofs.Common.{◌≡◌, ℕ, ap, sym, ◌∙◌, subst}
 use Rattle.book.specs.Pages.{history_of}
 use Rattle.book.proofs.Prefixes.{prefix_either}
 use Rattle.book.proofs.Steps.{seen_more}

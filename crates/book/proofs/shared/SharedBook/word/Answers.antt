@@ -1,6 +1,4 @@
-use Rattle.std.proofs.Common.{◌≡◌, ◌+◌, ◌<◌, ap, sym, ◌∙◌, arith, length, subst, slice_index_or}
-use Rattle.logbook.specs.Pages.{Named}
-use Rattle.book.specs.Pages.{words_of, word_named}
+use Rattle.std.proofs.Common.{◌≡◌, ◌+◌, ◌<◌, ap, ◌∙◌, arith, length, slice_index_or}
 use Rattle.book.specs.Places.{base_count}
 use Rattle.book.proofs.Words.{length_words, word_at}
 use Rattle.book.proofs.shared.SharedBook.word.Goals as goal
