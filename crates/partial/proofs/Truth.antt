@@ -104,3 +104,14 @@ module _ {E : Type 0} where
       change_keeps parts s p c Hole i f t = tt
       change_keeps parts s p c (Waiting pieces) i f t = Matches-changed pieces parts s p c t i
       change_keeps parts s p c (Filled e) i f t = ap (λ x. plus x c) t ∙ sym (sum_changes [] parts s p c i f)
+
+-- a change that fits all entries fits what is kept
+pub always_fits : {E C : Type 0} (fits : E → C → Type 0) (s : ℕ) (c : C) (st : State E) → ((e : E) → fits e c) → ChangeFits fits s c st
+always_fits fits s c Hole h = tt
+always_fits {E} {C} fits s c (Waiting pieces) h = by (slice_get pieces s)
+  where
+    by : (place : Option (Option E)) → PieceFits fits c place
+    by None = tt
+    by (Some None) = tt
+    by (Some (Some p)) = h p
+always_fits fits s c (Filled e) h = h e

@@ -13,6 +13,7 @@ use std::hash::Hash;
 use std::marker::Model;
 
 /// Filled entries by their keys, seen as the list of them from the one that was filled first.
+#[derive(Drop)]
 pub struct Filled<K: Eq + Hash, E> {
     latest: LruCache<K, E>,
 }

@@ -28,6 +28,7 @@ pub enum Evicted {
 }
 
 /// What is kept for keys, each of which has a part of its entry in each of a number of sources.
+#[derive(Drop)]
 pub struct Partial<K: Eq + Hash, E> {
     sources: usize,
     filled: Filled<K, E>,
