@@ -8,4 +8,6 @@ pub mod filled;
 pub mod gather;
 pub mod partial;
 pub mod pieces;
+#[cfg(test)]
+mod tests;
 mod waiting;
