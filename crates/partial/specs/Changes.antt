@@ -1,0 +1,61 @@
+-- Changes of a bag of rows: signed rows, as a whole.
+use Rattle.std.specs.Prelude.{ℕ, ◌+◌, ◌≤◌, List, [], ◌∷◌}
+use Rattle.row.specs.Cells.{Cells, row_cmp}
+use Rattle.row.specs.Bags.{one, times, inserted, removed, sorted, joined}
+use Rattle.row.specs.declared.record.Record.{Record}
+use Rattle.row.specs.declared.record.Sign.{Sign}
+use Rattle.row.specs.declared.record.Sign.TheVariants.{Plus, Minus}
+
+abbrev pub if_plus : Sign → ℕ → ℕ
+if_plus Plus n = n
+if_plus Minus n = 0
+
+abbrev pub if_minus : Sign → ℕ → ℕ
+if_minus Plus n = 0
+if_minus Minus n = n
+
+-- how often the records add the row
+abbrev pub gains : Cells → List Record → ℕ
+gains z [] = 0
+gains z (r ∷ rs) = if_plus r.sign (one row_cmp z r.row) + gains z rs
+
+-- how often they take it away
+abbrev pub losses : Cells → List Record → ℕ
+losses z [] = 0
+losses z (r ∷ rs) = if_minus r.sign (one row_cmp z r.row) + losses z rs
+
+-- each row is there, or added, as often as it is taken away
+pub record IsCovered (rows : List Cells) (records : List Record) : Type 0 where
+  pub enough : (z : Cells) → losses z records ≤ times row_cmp z rows + gains z records
+
+-- each row is there as often as it is taken away
+pub record LossesFit (rows : List Cells) (records : List Record) : Type 0 where
+  pub enough : (z : Cells) → losses z records ≤ times row_cmp z rows
+
+-- the bag with the record's row, where the record adds it
+abbrev pub plus_applied : Sign → Cells → List Cells → List Cells
+plus_applied Plus row rows = inserted row_cmp row rows
+plus_applied Minus row rows = rows
+
+-- the bag without the record's row, where the record takes it away
+abbrev pub minus_applied : Sign → Cells → List Cells → List Cells
+minus_applied Plus row rows = rows
+minus_applied Minus row rows = removed row_cmp row rows
+
+-- the bag with all that the records add
+abbrev pub with_gains : List Cells → List Record → List Cells
+with_gains rows [] = rows
+with_gains rows (r ∷ rs) = with_gains (plus_applied r.sign r.row rows) rs
+
+-- the bag without what the records take away
+abbrev pub with_losses : List Cells → List Record → List Cells
+with_losses rows [] = rows
+with_losses rows (r ∷ rs) = with_losses (minus_applied r.sign r.row rows) rs
+
+-- the bag with the records as one change: all that they add, and then without what they take away
+abbrev pub with_records : List Cells → List Record → List Cells
+with_records rows records = with_losses (with_gains rows records) records
+
+-- the sum of bags
+abbrev pub sum_of_bags : List (List Cells) → List Cells
+sum_of_bags pieces = sorted row_cmp (joined pieces)

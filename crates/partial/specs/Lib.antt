@@ -1,0 +1,4 @@
+pub mod States
+pub mod Truth
+pub mod Changes
+pub mod BagLaws

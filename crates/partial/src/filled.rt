@@ -1,0 +1,151 @@
+//! The filled entries, in the order in which they were filled.
+ghost use Rattle.std.specs.Prelude.{◌≡◌, ◌<◌, ◌++◌, ◌∷◌, [], length, reverse, slice_get, drop, is_some, Some, None, true, false, if◌then◌else◌, IfOk, OnOk, OnErr, IfSome, IfNone};
+ghost use Rattle.std.specs.Option.{option_copied, option_map, ForSome};
+ghost use Rattle.std.specs.Map.Iter.{TakesFirst, deref_pair};
+ghost use Rattle.std.specs.Iterator.{at_most};
+ghost use Rattle.std.specs.Map.{lookup, keys_of};
+ghost use Rattle.std.specs.Set.{remove_key};
+
+use crate::gather::Gather;
+use lru::{Iter, LruCache};
+use std::alloc::{AllocError, Global};
+use std::hash::Hash;
+use std::marker::Model;
+
+/// Filled entries by their keys, seen as the list of them from the one that was filled first.
+#[derive(Drop)]
+pub struct Filled<K: Eq + Hash, E> {
+    latest: LruCache<K, E>,
+}
+
+impl<K: Eq + Hash, E> Model for Filled<K, E> {
+    ghost use Rattle.std.specs.Prelude.{◌≡◌, ◌^◌, ◌-◌, List, reverse};
+
+    ghost Value = { List (K × E) };
+
+    ghost view = { λ f. reverse f.latest.entries };
+
+    ghost invariant = { λ f. f.latest.cap ≡ 2 ^ 64 - 1 };
+}
+
+impl<K: Eq + Hash + Drop, E: Drop> Filled<K, E> {
+    /// No entry. Fails only for want of memory.
+    pub fn new(alloc: Global) -> Result<Filled<K, E>, AllocError>
+        ensures { IfOk result (λ f. f ≡ []) }
+    {
+        Ok(Filled {
+            latest: LruCache::unbounded(alloc)?,
+        })
+    }
+
+    /// The entry of the key. Takes no memory. Constant time.
+    pub fn get(&self, key: &K) -> Option<&E>
+        ensures { option_copied result ≡ lookup (K.eq key.now) self.now }
+    {
+        let _ = self.latest.len();
+        self.latest.peek(key)
+    }
+
+    /// How many entries there are. Constant time.
+    pub fn len(&self) -> usize
+        ensures { result ≡ length self.now }
+    {
+        self.latest.len()
+    }
+
+    /// The key that was filled first. Takes no memory. Constant time.
+    pub fn oldest(&self) -> Option<&K>
+        ensures { option_copied result ≡ slice_get (keys_of self.now) 0 }
+    {
+        let (key, _) = self.latest.peek_lru()?;
+        Some(key)
+    }
+
+    /// Puts in an entry whose key is not there, behind all others. Fails only for want of
+    /// memory, and then all is as it was. Constant time.
+    pub fn fill(&mut self, key: K, entry: E) -> Result<(), AllocError>
+        requires { lookup (K.eq key) self.old ≡ None }
+        ensures filled { OnOk result (self.new ≡ self.old ++ (key, entry) ∷ []) }
+        ensures entries { OnOk result ((k : K) → lookup (K.eq k) self.new ≡ (if K.eq key k then Some entry else lookup (K.eq k) self.old)) }
+        ensures err { OnErr result (self.new ≡ self.old) }
+    {
+        let _ = self.latest.len();
+        self.latest.put(key, entry)?;
+        Ok(())
+    }
+
+    /// Takes the key's entry out, and says whether there was one. Takes no memory. Constant
+    /// time.
+    pub fn remove(&mut self, key: &K) -> bool
+        ensures known { result ≡ is_some (lookup (K.eq key.now) self.old) }
+        ensures entries { (k : K) → lookup (K.eq k) self.new ≡ (if K.eq key.now k then None else lookup (K.eq k) self.old) }
+        ensures order { keys_of self.new ≡ remove_key (K.eq key.now) (keys_of self.old) }
+    {
+        let _ = self.latest.len();
+        self.latest.pop(key).is_some()
+    }
+
+    /// Takes the entry out that was filled first, and gives its key. Takes no memory. Constant
+    /// time.
+    pub fn remove_oldest(&mut self) -> Option<K>
+        ensures key { result ≡ slice_get (keys_of self.old) 0 }
+        ensures entries { self.new ≡ drop 1 self.old }
+        ensures gone { IfSome result (λ key. (k : K) → lookup (K.eq k) self.new ≡ (if K.eq key k then None else lookup (K.eq k) self.old)) }
+    {
+        let _ = self.latest.len();
+        let (key, _) = self.latest.pop_lru()?;
+        Some(key)
+    }
+    /// The keys with their entries, from the one that was filled first. Takes no memory.
+    pub fn iter(&self) -> Walk<'_, K, E>
+        ensures { result ≡ self.now }
+    {
+        Walk {
+            latest: self.latest.iter(),
+        }
+    }
+}
+
+impl<K: Eq + Hash + Drop, E: Gather> Filled<K, E> {
+    /// Applies the change to the key's entry, if there is one. Fails only for want of memory;
+    /// what is then left of that entry is not said. Constant time, and that of the change.
+    pub fn apply(&mut self, alloc: Global, key: &K, change: &E::Change) -> Result<(), AllocError>
+        requires { ForSome (lookup (K.eq key.now) self.old) (λ e. E.fits e change.now) }
+        ensures applied { OnOk result (lookup (K.eq key.now) self.new ≡ option_map (λ e. E.plus e change.now) (lookup (K.eq key.now) self.old)) }
+        ensures others { (k : K) → K.eq key.now k ≡ false → lookup (K.eq k) self.new ≡ lookup (K.eq k) self.old }
+        ensures order { keys_of self.new ≡ keys_of self.old }
+    {
+        let _ = self.latest.len();
+        match self.latest.peek_mut(key) {
+            Some(entry) => entry.apply(alloc, change),
+            None => Ok(()),
+        }
+    }
+}
+
+/// The filled entries from the one that was filled first, seen as the list of those that are
+/// left.
+#[derive(Drop)]
+pub struct Walk<'a, K, E> {
+    latest: Iter<'a, K, E>,
+}
+
+impl<'a, K, E> Model for Walk<'a, K, E> {
+    ghost use Rattle.std.specs.Prelude.{List, reverse};
+
+    ghost Value = { List (K × E) };
+
+    ghost view = { λ w. reverse w.latest };
+}
+
+impl<'a, K, E> Iterator for Walk<'a, K, E> {
+    type Item = (&'a K, &'a E);
+
+    ghost next_gives = { TakesFirst deref_pair };
+
+    ghost remaining = { λ s. at_most (length s) };
+
+    fn next(&mut self) -> Option<(&'a K, &'a E)> {
+        self.latest.next_back()
+    }
+}

@@ -1,0 +1,205 @@
+//! Partial state: for each key a hole, a gather with the pieces in hand, or a filled entry. (Of
+//! the Noria paper: partially stateful dataflow, with upqueries that fill and evictions that
+//! open.)
+ghost use Rattle.std.specs.Prelude.{◌≡◌, ℕ, [], List, None, Some, OnOk, OnErr, IfOk, IfSome, IfNone, true, false, length, drop, slice_get, slice_set};
+ghost use Rattle.std.specs.Option.{option_copied};
+ghost use Rattle.std.specs.Set.{remove_key};
+ghost use Rattle.partial.specs.States.{State, Kept, state_of, order_of, OthersStay, GoesLast, Hole, is_hole, entry_of, begun, fills, evicted, says_evicted, after_piece, after_change, ChangeFits};
+ghost use Rattle.partial.specs.Truth.{IsTrueOf, with_part};
+
+use crate::filled::{Filled, Walk};
+use crate::gather::Gather;
+use crate::pieces::Pieces;
+use crate::waiting::{drop_piece, take_whole};
+use indexmap::IndexMap;
+use std::alloc::{AllocError, Global};
+use std::hash::Hash;
+use std::marker::Model;
+
+/// What an eviction did.
+#[derive(Clone, Copy, Debug, PartialEq, Eq)]
+pub enum Evicted {
+    /// It changed nothing.
+    Nothing,
+    /// It dropped the piece of the source, which has to be asked again.
+    Piece,
+    /// The filled key is a hole now.
+    Entry,
+}
+
+/// What is kept for keys, each of which has a part of its entry in each of a number of sources.
+#[derive(Drop)]
+pub struct Partial<K: Eq + Hash, E> {
+    sources: usize,
+    filled: Filled<K, E>,
+    waiting: IndexMap<K, Pieces<E>>,
+}
+
+impl<K: Eq + Hash, E> Model for Partial<K, E> {
+    ghost use Rattle.partial.specs.States.{Kept, IsApart};
+
+    ghost Value = { Kept K E };
+
+    ghost view = { λ p. record { sources = p.sources; filled = p.filled; waiting = p.waiting.entries } };
+
+    ghost invariant = { λ p. IsApart K.eq record { sources = p.sources; filled = p.filled; waiting = p.waiting.entries } };
+}
+
+impl<K: Eq + Hash + Drop, E: Drop> Partial<K, E> {
+    /// All keys are holes. Fails only for want of memory.
+    pub fn new(alloc: Global, sources: usize) -> Result<Partial<K, E>, AllocError>
+        ensures { IfOk result (λ p. p ≡ record { sources = sources; filled = []; waiting = [] }) }
+    {
+        Ok(Partial {
+            sources,
+            filled: Filled::new(alloc)?,
+            waiting: IndexMap::new(alloc),
+        })
+    }
+
+    /// How many sources there are. Constant time.
+    pub fn sources(&self) -> usize
+        ensures { result ≡ self.now.sources }
+    {
+        self.sources
+    }
+
+    /// The entry of a filled key, and of no other. Takes no memory. Constant time.
+    pub fn get(&self, key: &K) -> Option<&E>
+        ensures { option_copied result ≡ entry_of (state_of K.eq self.now key.now) }
+    {
+        self.filled.get(key)
+    }
+
+    /// How many keys are filled. Constant time.
+    pub fn len(&self) -> usize
+        ensures { result ≡ length (order_of self.now) }
+    {
+        self.filled.len()
+    }
+
+    /// The filled key that was filled first. Takes no memory. Constant time.
+    pub fn oldest(&self) -> Option<&K>
+        ensures { option_copied result ≡ slice_get (order_of self.now) 0 }
+    {
+        self.filled.oldest()
+    }
+
+    /// The filled keys with their entries, from the key that was filled first. Takes no memory.
+    pub fn iter(&self) -> Walk<'_, K, E>
+        ensures { result ≡ self.now.filled }
+    {
+        self.filled.iter()
+    }
+
+    /// Makes the key that was filled first a hole, and gives it; `None` where no key is filled.
+    /// Takes no memory. Constant time.
+    pub fn evict_oldest(&mut self) -> Option<K>
+        ensures sources { self.new.sources ≡ self.old.sources }
+        ensures oldest { result ≡ slice_get (order_of self.old) 0 }
+        ensures hole { IfSome result (λ key. state_of K.eq self.new key ≡ Hole) }
+        ensures others { IfSome result (λ key. OthersStay K.eq key self.old self.new) }
+        ensures order { order_of self.new ≡ drop 1 (order_of self.old) }
+        ensures none { IfNone result (self.new ≡ self.old) }
+    {
+        self.filled.remove_oldest()
+    }
+}
+
+impl<K: Eq + Hash + Drop, E: Gather> Partial<K, E> {
+    /// Makes a hole wait, with no piece in hand; elsewhere it changes nothing. Says whether it
+    /// did: then each source is to be asked. Fails only for want of memory, and then all is as
+    /// it was. Cost: the number of sources.
+    pub fn begin(&mut self, alloc: Global, key: K) -> Result<bool, AllocError>
+        ensures sources { self.new.sources ≡ self.old.sources }
+        ensures began { IfOk result (λ began. began ≡ is_hole (state_of K.eq self.old key)) }
+        ensures waits { OnOk result (state_of K.eq self.new key ≡ begun self.old.sources (state_of K.eq self.old key)) }
+        ensures others { OthersStay K.eq key self.old self.new }
+        ensures order { order_of self.new ≡ order_of self.old }
+        ensures truth { (parts : List E) → length parts ≡ self.old.sources → IsTrueOf E.total parts (state_of K.eq self.old key) → OnOk result (IsTrueOf E.total parts (state_of K.eq self.new key)) }
+        ensures err { OnErr result (self.new ≡ self.old) }
+    {
+        if self.filled.get(&key).is_some() || self.waiting.contains_key(&key) {
+            return Ok(false);
+        }
+        let pieces = Pieces::new(alloc, self.sources)?;
+        self.waiting.insert(key, pieces)?;
+        Ok(true)
+    }
+
+    /// Takes in the piece of a source for a key that waits for it; with the last one the key is
+    /// filled with the sum of the pieces, behind all keys that are filled, and the call says so.
+    /// A piece for a key that does not wait, or from a source whose piece is here already, or
+    /// that there is not, changes nothing. Fails only for want of memory; what is then kept at
+    /// the key is not said. Cost: the number of sources, and that of the sum.
+    pub fn give_piece(
+        &mut self,
+        alloc: Global,
+        key: &K,
+        source: usize,
+        piece: E,
+    ) -> Result<bool, AllocError>
+        ensures sources { self.new.sources ≡ self.old.sources }
+        ensures fills { IfOk result (λ filled. filled ≡ fills source piece (state_of K.eq self.old key.now)) }
+        ensures given { OnOk result (state_of K.eq self.new key.now ≡ after_piece E.total source piece (state_of K.eq self.old key.now)) }
+        ensures others { OthersStay K.eq key.now self.old self.new }
+        ensures last { IfOk result (λ filled. filled ≡ true → GoesLast K.eq key.now (order_of self.old) (order_of self.new)) }
+        ensures order { IfOk result (λ filled. filled ≡ false → order_of self.new ≡ order_of self.old) }
+        ensures truth { (parts : List E) → slice_get parts source ≡ Some piece → IsTrueOf E.total parts (state_of K.eq self.old key.now) → OnOk result (IsTrueOf E.total parts (state_of K.eq self.new key.now)) }
+        ensures err { OnErr result (order_of self.new ≡ order_of self.old) }
+    {
+        match take_whole(&mut self.waiting, key, source, piece) {
+            Some((stored, pieces)) => {
+                let entry = E::gather(alloc, pieces.into_pieces(alloc)?)?;
+                self.filled.fill(stored, entry)?;
+                Ok(true)
+            }
+            None => Ok(false),
+        }
+    }
+
+    /// Takes in a change of the part that a source has: a filled entry takes it; where the key
+    /// waits, the source's piece takes it if it is here, and else the change is dropped, since
+    /// the piece will have it; at a hole it is dropped. Fails only for want of memory; what is
+    /// then kept at the key is not said. Constant time, and that of the change.
+    pub fn apply(
+        &mut self,
+        alloc: Global,
+        key: &K,
+        source: usize,
+        change: &E::Change,
+    ) -> Result<(), AllocError>
+        requires { ChangeFits E.fits source change.now (state_of K.eq self.old key.now) }
+        ensures sources { self.new.sources ≡ self.old.sources }
+        ensures applied { OnOk result (state_of K.eq self.new key.now ≡ after_change E.plus source change.now (state_of K.eq self.old key.now)) }
+        ensures others { OthersStay K.eq key.now self.old self.new }
+        ensures order { order_of self.new ≡ order_of self.old }
+        ensures truth { (parts : List E) (part : E) → slice_get parts source ≡ Some part → E.fits part change.now → IsTrueOf E.total parts (state_of K.eq self.old key.now) → OnOk result (IsTrueOf E.total (slice_set parts source (E.plus part change.now)) (state_of K.eq self.new key.now)) }
+    {
+        match self.waiting.get_mut(key) {
+            Some(pieces) => pieces.apply(alloc, source, change),
+            None => self.filled.apply(alloc, key, change),
+        }
+    }
+
+    /// Makes a filled key a hole. Where the key waits and a source is named, drops the piece of
+    /// that source. Elsewhere it changes nothing. Says which it did. Takes no memory. Constant
+    /// time.
+    pub fn evict(&mut self, key: &K, source: Option<usize>) -> Evicted
+        ensures sources { self.new.sources ≡ self.old.sources }
+        ensures says { result ≡ says_evicted source (state_of K.eq self.old key.now) }
+        ensures evicted { state_of K.eq self.new key.now ≡ evicted source (state_of K.eq self.old key.now) }
+        ensures others { OthersStay K.eq key.now self.old self.new }
+        ensures order { order_of self.new ≡ remove_key (K.eq key.now) (order_of self.old) }
+        ensures truth { (parts : List E) (part : E) → IsTrueOf E.total parts (state_of K.eq self.old key.now) → IsTrueOf E.total (with_part source part parts) (state_of K.eq self.new key.now) }
+    {
+        if self.filled.remove(key) {
+            Evicted::Entry
+        } else {
+            match source {
+                Some(source) if drop_piece(&mut self.waiting, key, source) => Evicted::Piece,
+                _ => Evicted::Nothing,
+            }
+        }
+    }
+}
