@@ -4,3 +4,4 @@ pub mod Loops
 pub mod Keys
 pub mod Groups
 pub mod IndexSteps
+pub mod Sums

@@ -5,3 +5,5 @@
 pub mod difference;
 pub mod filter;
 pub mod index;
+pub mod shape;
+pub mod total;
