@@ -5,3 +5,5 @@ pub mod Keys
 pub mod Groups
 pub mod IndexSteps
 pub mod Sums
+pub mod StageLaws
+pub mod StageSteps

@@ -6,4 +6,5 @@ pub mod difference;
 pub mod filter;
 pub mod index;
 pub mod shape;
+pub mod stage;
 pub mod total;
