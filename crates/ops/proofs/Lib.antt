@@ -7,3 +7,4 @@ pub mod IndexSteps
 pub mod Sums
 pub mod StageLaws
 pub mod StageSteps
+pub mod Takes
