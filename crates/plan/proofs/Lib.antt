@@ -1,2 +1,4 @@
 pub mod Loops
 pub mod RowLoops
+pub mod OutputLaws
+pub mod KeyOutputs

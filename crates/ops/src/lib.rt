@@ -1,0 +1,10 @@
+//! What the stage of a plan makes of the rows of its sides: all of it at once, and step by step
+//! as the rows change. Nothing here waits, and nothing fails but for want of memory.
+#![tactic(auto)]
+
+pub mod difference;
+pub mod filter;
+pub mod index;
+pub mod shape;
+pub mod stage;
+pub mod total;
