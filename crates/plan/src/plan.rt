@@ -3,6 +3,7 @@ ghost use Rattle.std.specs.Prelude.{◌≡◌, ◌<◌, IfOk, IfSome, length, st
 ghost use Rattle.std.specs.Option.{option_copied};
 ghost use Rattle.plan.specs.Layouts.{table_at, table_named, view_at, view_named};
 ghost use Rattle.plan.specs.Recipes.{recipe_n};
+ghost use Rattle.plan.specs.Profile.{IsPlan};
 
 use crate::kinds::{Aggregate, Kind};
 use crate::stage::Side;
@@ -112,6 +113,13 @@ impl Plan {
             cap: 1024,
             views,
         })
+    }
+
+    /// The plan is of the profile, which its type keeps. Does nothing: a caller learns it.
+    pub fn keeps_profile(&self)
+        ensures { IsPlan self.now }
+    {
+        let _tables = &self.tables;
     }
 
     /// The place of the table with this name. Costs a look at each name.
