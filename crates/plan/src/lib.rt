@@ -1,6 +1,7 @@
 //! A checked plan: tables, one stage over them, and views of what the stage gives.
 #![tactic(auto)]
 
+pub mod draft;
 pub mod kinds;
 pub mod plan;
 pub mod stage;

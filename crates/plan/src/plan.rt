@@ -1,10 +1,11 @@
 //! A checked plan, which contracts see as its layout.
-ghost use Rattle.std.specs.Prelude.{◌≡◌, ◌<◌, IfOk, IfSome, length, string_bytes};
+ghost use Rattle.std.specs.Prelude.{◌≡◌, ◌<◌, IfOk, IfSome, MatchOption, length, string_bytes};
 ghost use Rattle.std.specs.Option.{option_copied};
 ghost use Rattle.plan.specs.Layouts.{table_at, table_named, view_at, view_named};
 ghost use Rattle.plan.specs.Recipes.{recipe_n};
 ghost use Rattle.plan.specs.Profile.{IsPlan};
 
+use crate::draft::Draft;
 use crate::kinds::{Aggregate, Kind};
 use crate::stage::Side;
 use crate::table::{Column, Table};
@@ -63,6 +64,13 @@ impl ViewPlan {
     {
         self.shards
     }
+
+    /// How many filled keys a shard of the view keeps.
+    pub fn cap(&self) -> usize
+        ensures { result ≡ self.now.cap }
+    {
+        self.cap
+    }
 }
 
 /// A checked plan. Its type keeps the profile: between 1 and 8 tables of 1 to 16 columns and 1 to
@@ -111,6 +119,34 @@ impl Plan {
             right: None,
             aggregate: None,
             cap: 1024,
+            views,
+        })
+    }
+
+    /// The plan of these parts, or nothing where they do not keep the profile, each fact of which is
+    /// tested. Takes no memory. Cost: a look at each pair of names.
+    pub fn checked(draft: Draft) -> Option<Plan>
+        ensures { MatchOption result (IsPlan draft → ⊥) (λ p. (p ≡ draft) × IsPlan draft) }
+    {
+        if !draft.is_plan() {
+            return None;
+        }
+        let Draft {
+            tables,
+            stages,
+            left,
+            right,
+            aggregate,
+            cap,
+            views,
+        } = draft;
+        Some(Plan {
+            tables,
+            stages,
+            left,
+            right,
+            aggregate,
+            cap,
             views,
         })
     }
