@@ -9,4 +9,6 @@ pub mod query;
 pub mod rows;
 mod shape;
 pub mod stage;
+#[cfg(test)]
+mod tests;
 mod totals;

@@ -1,5 +1,6 @@
 //! The left rows and the right rows of a stage shard over a line.
 ghost use Rattle.std.specs.Prelude.{◌≡◌, ◌≢◌, ◌<◌, ◌≤◌, IfOk, length, take, drop, Some, None, true};
+ghost use Rattle.std.specs.List.{list_all};
 ghost use Rattle.row.specs.Cells.{has_shard};
 ghost use Rattle.plan.specs.Outputs.{pass};
 ghost use Rattle.plan.specs.Layouts.{table_at};
@@ -140,6 +141,13 @@ pub fn is_line(plan: &Plan, line: &Line) -> bool
         Some(side) => all_fit(plan.table(side.table()), rights),
         None => true,
     }
+}
+
+/// Whether that is so of each of the lines.
+pub fn are_lines(plan: &Plan, lines: &[Line]) -> bool
+    ensures { result ≡ list_all (is_line plan.now) lines.now }
+{
+    lines.iter().all(|line| is_line(plan, line))
 }
 
 /// Whether each entry of each front fits the table.
