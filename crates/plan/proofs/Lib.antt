@@ -1,4 +1,5 @@
 pub mod Loops
+pub mod Decides
 pub mod RowLoops
 pub mod OutputLaws
 pub mod KeyOutputs

@@ -2,4 +2,5 @@ pub mod Layouts
 pub mod Kinds
 pub mod Outputs
 pub mod Profile
+pub mod Tested
 pub mod Recipes

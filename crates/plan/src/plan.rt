@@ -1,9 +1,11 @@
 //! A checked plan, which contracts see as its layout.
-ghost use Rattle.std.specs.Prelude.{◌≡◌, ◌<◌, ◌≤◌, IfOk, IfSome, length, string_bytes};
+ghost use Rattle.std.specs.Prelude.{◌≡◌, ◌<◌, ◌≤◌, IfOk, IfSome, MatchOption, length, string_bytes};
 ghost use Rattle.std.specs.Option.{option_copied};
 ghost use Rattle.plan.specs.Layouts.{table_at, table_named, view_at, view_named};
+ghost use Rattle.plan.specs.Profile.{IsPlan};
 ghost use Rattle.plan.specs.Recipes.{notes_plan};
 
+use crate::draft::Draft;
 use crate::kinds::{Aggregate, Kind};
 use crate::stage::Side;
 use crate::table::{Column, Table};
@@ -62,6 +64,13 @@ impl ViewPlan {
     {
         self.shards
     }
+
+    /// How many filled keys a shard of the view keeps.
+    pub fn cap(&self) -> usize
+        ensures { result ≡ self.now.cap }
+    {
+        self.cap
+    }
 }
 
 /// A checked plan. Its type keeps the profile: between 1 and 8 tables of 1 to 16 columns and 1 to
@@ -112,6 +121,41 @@ impl Plan {
             cap: 1024,
             views,
         })
+    }
+
+    /// The plan of these parts, or nothing where they do not keep the profile, each fact of which is
+    /// tested. Takes no memory. Cost: a look at each pair of names.
+    pub fn checked(draft: Draft) -> Option<Plan>
+        ensures { MatchOption result (IsPlan draft → ⊥) (λ p. (p ≡ draft) × IsPlan draft) }
+    {
+        if !draft.is_plan() {
+            return None;
+        }
+        let Draft {
+            tables,
+            stages,
+            left,
+            right,
+            aggregate,
+            cap,
+            views,
+        } = draft;
+        Some(Plan {
+            tables,
+            stages,
+            left,
+            right,
+            aggregate,
+            cap,
+            views,
+        })
+    }
+
+    /// The plan is of the profile, which its type keeps. Does nothing: a caller learns it.
+    pub fn keeps_profile(&self)
+        ensures { IsPlan self.now }
+    {
+        let _tables = &self.tables;
     }
 
     /// The place of the table with this name. Costs a look at each name.

@@ -1,9 +1,12 @@
 //! The one stage of a plan: the sides that it reads, and their conditions.
 ghost use Rattle.std.specs.Prelude.{◌≡◌};
+ghost use Rattle.std.specs.List.{list_all};
 ghost use Rattle.row.specs.Cells.{datum_of};
 ghost use Rattle.plan.specs.Outputs.{holds, pass};
+ghost use Rattle.plan.specs.Tested.{is_condition, is_side_of, is_side};
 
 use crate::kinds::Op;
+use crate::table::Table;
 use row::row::Row;
 use row::value::Value;
 use std::marker::Model;
@@ -41,6 +44,13 @@ impl Condition {
             Some(cell) => self.op.compares(cell.compare(&self.value)),
             None => false,
         }
+    }
+
+    /// Whether the table has the column, and the value is a cell of it.
+    pub fn fits(&self, table: &Table) -> bool
+        ensures { result ≡ is_condition table.now self.now }
+    {
+        self.column < table.width() && table.takes_at(self.column, &self.value)
     }
 }
 
@@ -92,5 +102,28 @@ impl Side {
         ensures { result ≡ pass self.now.conditions row.now }
     {
         self.conditions.iter().all(|condition| condition.holds(row))
+    }
+
+    /// Whether the side is one over the table: its key among the columns, and at most 8 conditions,
+    /// each of which fits.
+    pub fn is_of(&self, table: &Table) -> bool
+        ensures { result ≡ is_side_of table.now self.now }
+    {
+        table.width() > self.key && self.conditions.len() <= 8 && self.conditions_fit(table)
+    }
+
+    fn conditions_fit(&self, table: &Table) -> bool
+        ensures { result ≡ list_all (is_condition table.now) self.now.conditions }
+    {
+        self.conditions
+            .iter()
+            .all(|condition| condition.fits(table))
+    }
+
+    /// Whether the side is one over these tables.
+    pub fn fits(&self, tables: &[Table]) -> bool
+        ensures { result ≡ is_side tables.now self.now }
+    {
+        tables.len() > self.table && self.is_of(&tables[self.table])
     }
 }

@@ -1,11 +1,15 @@
 //! Tables and their columns.
-ghost use Rattle.std.specs.Prelude.{◌≡◌, ◌<◌, length, string_bytes, slice_index_or, slice_get, IfOk};
+ghost use Rattle.std.specs.Prelude.{◌≡◌, ◌<◌, ◌&&◌, length, map, string_bytes, slice_index_or, slice_get, IfOk};
 ghost use Rattle.std.specs.Bool.{OnTrue};
+ghost use Rattle.std.specs.List.{list_all};
 ghost use Rattle.row.specs.Cells.{datum_of};
 ghost use Rattle.plan.specs.Kinds.{is_cell, is_row};
-ghost use Rattle.plan.specs.Layouts.{column_at, kind_at};
+ghost use Rattle.plan.specs.Layouts.{ColumnLayout, column_at, kind_at};
+ghost use Rattle.plan.specs.Profile.{is_name, is_domain_name};
+ghost use Rattle.plan.specs.Tested.{is_from, is_table, is_new, are_apart};
 
 use crate::kinds::Kind;
+use crate::names::{is_domain_name, is_name};
 use row::row::Row;
 use row::value::Value;
 use std::alloc::{AllocError, Global};
@@ -49,6 +53,12 @@ impl Column {
         ensures { result ≡ self.now.kind }
     {
         self.kind
+    }
+
+    fn name(&self) -> &str
+        ensures { result.now ≡ self.now.name }
+    {
+        &self.name
     }
 }
 
@@ -137,6 +147,39 @@ impl Table {
     {
         self.columns[self.key].takes(value)
     }
+
+    /// Whether the value is a cell of the column at the place.
+    pub fn takes_at(&self, column: usize, value: &Value) -> bool
+        requires { column < length self.now.columns }
+        ensures { result ≡ is_cell (column_at self.now column).kind (datum_of value.now) }
+    {
+        self.columns[column].takes(value)
+    }
+
+    /// Whether the table and its columns have names.
+    pub fn is_named(&self) -> bool
+        ensures { result ≡ (is_domain_name self.now.name && list_all (λ (c : ColumnLayout). is_name c.name) self.now.columns) }
+    {
+        is_domain_name(&self.name) && are_named(&self.columns)
+    }
+
+    /// Whether the table is one of the profile: 1 to 8 shards, 1 to 16 columns with names that are
+    /// apart, and its key among them.
+    pub fn is_of_profile(&self) -> bool
+        ensures { result ≡ is_table self.now }
+    {
+        is_from(1, 8, self.shards)
+            && is_from(1, 16, self.columns.len())
+            && self.key < self.columns.len()
+            && are_apart(self.columns.as_slice())
+    }
+}
+
+/// Whether all columns have names.
+fn are_named(columns: &[Column]) -> bool
+    ensures { result ≡ list_all (λ (c : ColumnLayout). is_name c.name) columns.now }
+{
+    columns.iter().all(|column| is_name(column.name()))
 }
 
 fn all_take(columns: &[Column], row: &Row) -> bool
@@ -145,6 +188,37 @@ fn all_take(columns: &[Column], row: &Row) -> bool
 {
     for (at, column) in columns.iter().enumerate() {
         if !column.takes(row.cell(at)) {
+            return false;
+        }
+    }
+    true
+}
+
+/// Whether the number is from the one to the other.
+pub(crate) fn is_from(least: usize, most: usize, n: usize) -> bool
+    ensures { result ≡ is_from least most n }
+{
+    least <= n && n <= most
+}
+
+/// Whether no two columns have one name.
+fn are_apart(columns: &[Column]) -> bool
+    ensures { result ≡ are_apart (map (λ (c : ColumnLayout). c.name) columns.now) }
+{
+    for (at, column) in columns.iter().enumerate() {
+        if !is_new(column.name(), &columns[at + 1..]) {
+            return false;
+        }
+    }
+    true
+}
+
+/// Whether no column has the name.
+fn is_new(name: &str, columns: &[Column]) -> bool
+    ensures { result ≡ is_new name.now (map (λ (c : ColumnLayout). c.name) columns.now) }
+{
+    for column in columns {
+        if name == column.name() {
             return false;
         }
     }

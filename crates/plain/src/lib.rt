@@ -1,0 +1,14 @@
+//! The definitions as programs: plain, slow, and exact. Nothing here is kept between two calls, and
+//! nothing is found by an index; each call evaluates what it is asked anew over whole fronts. The
+//! store's own code is compared with it.
+#![tactic(auto)]
+
+pub mod front;
+mod groups;
+pub mod query;
+pub mod rows;
+mod shape;
+pub mod stage;
+#[cfg(test)]
+mod tests;
+mod totals;
