@@ -3,7 +3,8 @@ ghost use Rattle.std.specs.Prelude.{◌≡◌, IfOk, filter, List};
 ghost use Rattle.row.specs.Bags.{sorted};
 ghost use Rattle.row.specs.Cells.{Cells, row_cmp};
 ghost use Rattle.plan.specs.Outputs.{pass};
-ghost use Rattle.ops.specs.Changes.{Turns, kept};
+ghost use Rattle.row.specs.Changes.{Turns};
+ghost use Rattle.ops.specs.Changes.{kept};
 
 use plan::stage::Side;
 use row::bag::Bag;

@@ -3,7 +3,8 @@ use Rattle.std.proofs.Common.{◌≡◌, ◌+◌, ◌<◌, ◌≤◌, List, [], 
 use Rattle.row.specs.Cells.{Cells, row_cmp}
 use Rattle.row.specs.CellOrder.{row_total, row_same}
 use Rattle.row.specs.Bags.{one, times, IsAscending, joined}
-use Rattle.partial.specs.Changes.{if_plus, if_minus, gains, losses, plus_applied, minus_applied, with_gains, with_losses, with_records, IsCovered, LossesFit, sum_of_bags}
+use Rattle.row.specs.Changes.{if_plus, if_minus, gains, losses, IsCovered}
+use Rattle.partial.specs.Changes.{plus_applied, minus_applied, with_gains, with_losses, with_records, LossesFit, sum_of_bags}
 use Rattle.row.specs.declared.record.Record.{Record}
 use Rattle.row.specs.declared.record.Sign.{Sign}
 use Rattle.row.specs.declared.record.Sign.TheVariants.{Plus, Minus}

@@ -1,32 +1,11 @@
 -- Changes of a bag of rows: signed rows, as a whole.
-use Rattle.std.specs.Prelude.{ℕ, ◌+◌, ◌≤◌, List, [], ◌∷◌}
+use Rattle.std.specs.Prelude.{ℕ, ◌≤◌, List, [], ◌∷◌}
 use Rattle.row.specs.Cells.{Cells, row_cmp}
-use Rattle.row.specs.Bags.{one, times, inserted, removed, sorted, joined}
+use Rattle.row.specs.Bags.{times, inserted, removed, sorted, joined}
+use Rattle.row.specs.Changes.{losses}
 use Rattle.row.specs.declared.record.Record.{Record}
 use Rattle.row.specs.declared.record.Sign.{Sign}
 use Rattle.row.specs.declared.record.Sign.TheVariants.{Plus, Minus}
-
-abbrev pub if_plus : Sign → ℕ → ℕ
-if_plus Plus n = n
-if_plus Minus n = 0
-
-abbrev pub if_minus : Sign → ℕ → ℕ
-if_minus Plus n = 0
-if_minus Minus n = n
-
--- how often the records add the row
-abbrev pub gains : Cells → List Record → ℕ
-gains z [] = 0
-gains z (r ∷ rs) = if_plus r.sign (one row_cmp z r.row) + gains z rs
-
--- how often they take it away
-abbrev pub losses : Cells → List Record → ℕ
-losses z [] = 0
-losses z (r ∷ rs) = if_minus r.sign (one row_cmp z r.row) + losses z rs
-
--- each row is there, or added, as often as it is taken away
-pub record IsCovered (rows : List Cells) (records : List Record) : Type 0 where
-  pub enough : (z : Cells) → losses z records ≤ times row_cmp z rows + gains z records
 
 -- each row is there as often as it is taken away
 pub record LossesFit (rows : List Cells) (records : List Record) : Type 0 where

@@ -2,7 +2,8 @@
 ghost use Rattle.std.specs.Prelude.{◌≡◌, ◌+◌, ◌<◌, IfOk, OnOk};
 ghost use Rattle.row.specs.Cells.{Cells, row_cmp};
 ghost use Rattle.row.specs.Bags.{times, IsAscending};
-ghost use Rattle.partial.specs.Changes.{IsCovered, LossesFit, with_records, with_gains, with_losses, plus_applied, minus_applied, sum_of_bags};
+ghost use Rattle.row.specs.Changes.{IsCovered};
+ghost use Rattle.partial.specs.Changes.{LossesFit, with_records, with_gains, with_losses, plus_applied, minus_applied, sum_of_bags};
 ghost use Rattle.partial.specs.BagLaws.{total_changes, total_fits};
 
 use crate::gather::Gather;

@@ -1,7 +1,7 @@
 //! Examples whose outcomes follow from the rule of the gather.
 ghost use Rattle.std.specs.Prelude.{List, IfOk};
 ghost use Rattle.row.specs.Cells.{Cells};
-ghost use Rattle.partial.specs.Changes.{IsCovered};
+ghost use Rattle.row.specs.Changes.{IsCovered};
 
 use crate::gather::Gather;
 use crate::partial::{Evicted, Partial};

@@ -3,3 +3,4 @@ pub mod Bags
 pub mod Printed
 pub mod Refusals
 pub mod CellOrder
+pub mod Changes
