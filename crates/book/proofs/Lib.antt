@@ -14,3 +14,4 @@ pub mod Replies
 pub mod Sessions
 pub mod Zeros
 pub mod Advances
+pub mod Lines

@@ -1,5 +1,6 @@
 -- Numbers of base shards and their tables.
 use Rattle.std.proofs.Common.{◌≡◌, ℕ, zero, suc, ◌+◌, ◌-◌, ◌<◌, ◌≤◌, nat_lt, Bool, true, false, List, [], ◌∷◌, ◌++◌, length, refl, ap, sym, ◌∙◌, arith, slice_index_or, Option, Some, None, length-append, add-one}
+use Rattle.std.specs.List.{range_with_len}
 use Rattle.std.proofs.lemmas.Bool.Decides.{nat_tests}
 use Rattle.std.proofs.lemmas.List.FromFn.{length-range_with_len, get_or-range_with_len}
 use Rattle.plan.specs.Layouts.{TableLayout, SideLayout, Layout, no_table, table_at}
@@ -106,3 +107,8 @@ pub before_more : (ts : List TableLayout) (t : ℕ) → t < length ts → shards
 before_more [] t lt = absurd (omega arith)
 before_more (x ∷ ts) zero lt = omega (arith, before_none ts)
 before_more (x ∷ ts) (suc t) lt = rw (add-one (suc t)) (let rest = before_more ts t (omega arith) in let e : shards_before ts (suc t) ≡ shards_before ts (t + 1) = ap (shards_before ts) (sym (add-one t)) in omega (arith, rest, e))
+
+-- ---- one more number
+pub range_more : (a n x : ℕ) → x ≡ a + n → range_with_len a n ++ x ∷ [] ≡ range_with_len a (n + 1)
+range_more a zero x e = let same : x ≡ a = omega (arith, e) in ap (λ y. y ∷ []) same
+range_more a (suc n) x e = let more : suc n + 1 ≡ suc (n + 1) = omega arith in rw more (ap (λ l. a ∷ l) (range_more (a + 1) n x (omega (arith, e))))

@@ -8,6 +8,7 @@ use Rattle.book.specs.Logs.{Change}
 use Rattle.book.specs.Histories.{Item, write, read, fence, Author, log_of, authors_of, entry_in, author_in}
 use Rattle.book.specs.Pages.{Page, history_of}
 use Rattle.book.specs.Fronts.{FrontView, IsFront, IsAppended}
+use Rattle.book.specs.Legal.{IsLegal}
 use Rattle.book.specs.Replies.{IsWritten, IsAfter, longer}
 use Rattle.book.proofs.Prefixes.{prefix_get, prefix_whole, prefix_length, prefix_self}
 use Rattle.book.proofs.Steps.{rest_of}
@@ -101,8 +102,34 @@ log_longer b xs ys (inr p) le false o =
     let pre : IsPrefix (log_of b ys) (log_of b xs) = (log_of b p.0, sym (ap (log_of b) (sym p.1) ∙ flat_map-append (entry_in b) ys p.0)) in
     sym (prefix_whole (log_of b ys) (log_of b xs) pre le)
 
+-- and so are its authors
+authors_longer : (b : ℕ) (xs ys : List Item) → IsPrefix xs ys ⊎ IsPrefix ys xs → length (authors_of b xs) ≤ length (authors_of b ys) → (o : Bool) → nat_le (length xs) (length ys) ≡ o → authors_of b (cond o ys xs) ≡ authors_of b ys
+authors_longer b xs ys either le true o = refl
+authors_longer b xs ys (inl p) le false o = absurd (let l : length ys < length xs = grind (arith, nat_tests) in omega (arith, prefix_length xs ys p))
+authors_longer b xs ys (inr p) le false o =
+    let pre : IsPrefix (authors_of b ys) (authors_of b xs) = (authors_of b p.0, sym (ap (authors_of b) (sym p.1) ∙ flat_map-append (author_in b) ys p.0)) in
+    sym (prefix_whole (authors_of b ys) (authors_of b xs) pre le)
+
 pub log_adopted : (b : ℕ) (xs ys : List Item) → IsPrefix xs ys ⊎ IsPrefix ys xs → length (log_of b xs) ≤ length (log_of b ys) → log_of b (longer xs ys) ≡ log_of b ys
 log_adopted b xs ys either le = log_longer b xs ys either le (nat_le (length xs) (length ys)) refl
+
+pub authors_adopted : (b : ℕ) (xs ys : List Item) → IsPrefix xs ys ⊎ IsPrefix ys xs → length (log_of b xs) ≤ length (log_of b ys) → authors_of b (longer xs ys) ≡ authors_of b ys
+authors_adopted b xs ys either le = authors_longer b xs ys either (omega (arith, le, length_authors b xs, length_authors b ys)) (nat_le (length xs) (length ys)) refl
+
+-- the longer part is one of the two
+pub legal_longer : (p : Layout) (n : ℕ) (xs ys : List Item) → IsLegal p n xs → IsLegal p n ys → IsLegal p n (longer xs ys)
+legal_longer p n xs ys l m = pick (nat_le (length xs) (length ys))
+  where
+    pick : (o : Bool) → IsLegal p n (cond o ys xs)
+    pick true = m
+    pick false = l
+
+pub longer_within : (xs ys zs : List Item) → IsPrefix xs zs → IsPrefix ys zs → IsPrefix (longer xs ys) zs
+longer_within xs ys zs l m = pick (nat_le (length xs) (length ys))
+  where
+    pick : (o : Bool) → IsPrefix (cond o ys xs) zs
+    pick true = m
+    pick false = l
 
 get_end : {A : Type 0} (xs : List A) (x : A) (n : ℕ) → length xs ≡ n → slice_get (xs ++ x ∷ []) n ≡ Some x
 get_end [] x zero e = refl

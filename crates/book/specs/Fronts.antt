@@ -25,6 +25,11 @@ pub record IsFront (p : Layout) (f : FrontView) : Type 0 where
   pub base : f.base < base_count p
   pub len : f.len ≤ length (log_of f.base f.seen)
 
+-- the history goes on from the front's, and its log has all of the front's entries
+pub record IsReached (h : List Item) (f : FrontView) : Type 0 where
+  pub seen : IsPrefix f.seen h
+  pub len : f.len ≤ length (log_of f.base h)
+
 -- one more entry, by an item that stands at the end of what was then seen
 pub record IsAppended (p : Layout) (f : FrontView) (s m : ℕ) (e : Change) (g : FrontView) : Type 0 where
   pub item : IsAdded p f.base f.seen (write s m f.base e) g.seen

@@ -1,7 +1,7 @@
 -- Cuts and sessions, each with the history that was seen.
-use Rattle.std.specs.Prelude.{◌≡◌, ℕ, ◌+◌, ◌<◌, ◌≤◌, List, [], map, length, slice_index_or, slice_set}
+use Rattle.std.specs.Prelude.{◌≡◌, ℕ, ◌+◌, ◌<◌, ◌≤◌, List, [], map, length, replicate, slice_index_or, slice_set}
 use mathlib.Core.List.{IsPrefix}
-use Rattle.plan.specs.Layouts.{Layout, view_at}
+use Rattle.plan.specs.Layouts.{ViewLayout, Layout, view_at}
 use Rattle.book.specs.Logs.{Change}
 use Rattle.book.specs.Places.{base_count}
 use Rattle.book.specs.Queries.{Line}
@@ -85,6 +85,10 @@ with_length cut s b n = slice_set cut s (slice_set (slice_index_or cut s []) b n
 
 abbrev pub with_front : List Line → ℕ → ℕ → List Change → List Line
 with_front fs s b es = slice_set fs s (slice_set (slice_index_or fs s []) b es)
+
+-- the same line of lengths for each stage shard, at each shard of each view
+abbrev pub even_floors : Layout → List ℕ → Floors
+even_floors p line = map (λ (v : ViewLayout). replicate v.shards (replicate p.stages line)) p.views
 
 -- the program's places as those of the definitions
 abbrev pub places_of : List Place → List PlaceView

@@ -1,16 +1,20 @@
 //! Cuts: lengths of fronts, and one history for all of them.
-ghost use Rattle.std.specs.Prelude.{◌≡◌, ◌<◌, ◌≤◌, [], length, slice_index_or, slice_set, take};
+ghost use Rattle.std.specs.Prelude.{◌≡◌, ◌<◌, ◌≤◌, [], length, map, replicate, slice_index_or, slice_set, take, IfOk};
 ghost use mathlib.Core.List.{IsPrefix};
-ghost use Rattle.book.specs.Fronts.{entries};
+ghost use Rattle.row.specs.Bags.{Each};
+ghost use Rattle.book.specs.Fronts.{FrontView, IsReached, entries};
+ghost use Rattle.book.specs.Pages.{IsLogOf, history_of};
 ghost use Rattle.book.specs.Places.{sources, source_at};
-ghost use Rattle.book.specs.Sessions.{fronts, with_length, with_front};
+ghost use Rattle.book.specs.Sessions.{fronts, with_length, with_front, even_floors};
 
 use crate::floors::Floors;
 use crate::front::Front;
 use crate::law::{Law, LogPage, Naming};
+use crate::part::Part;
 use crate::step::learn;
 use logbook::Seen;
-use std::alloc::Global;
+use plan::plan::Plan;
+use std::alloc::{AllocError, Global};
 use std::marker::{Model, PhantomData};
 
 /// A length for each stage shard and each source.
@@ -86,6 +90,18 @@ impl Lengths {
         }
     }
 
+    /// The same lengths of the sources for each of so many stage shards. Refused for want of
+    /// memory alone.
+    pub fn even(alloc: Global, stages: usize, line: &[u64]) -> Result<Lengths, AllocError>
+        ensures { IfOk result (λ c. c ≡ replicate stages line.now) }
+    {
+        let mut lines = Vec::new(alloc);
+        for _stage in 0..stages {
+            lines.push(Vec::from_slice(alloc, line)?)?;
+        }
+        Ok(Lengths { lines })
+    }
+
     /// Sets one length.
     pub fn set(&mut self, stage: usize, source: usize, len: u64)
         requires stage { stage < length self.old }
@@ -95,6 +111,52 @@ impl Lengths {
         let line = &mut self.lines[stage];
         line[source] = len;
     }
+}
+
+impl<J: Naming> Cuts<J> {
+    /// For each shard of each view the cut at which each stage shard has these fronts, one of
+    /// each source. Refused for want of memory alone.
+    pub fn even(
+        alloc: Global,
+        plan: &Plan,
+        part: &Part<J>,
+        fronts: &[Front<J>],
+    ) -> Result<Cuts<J>, AllocError>
+        requires plan { plan.now ≡ J.plan }
+        requires sources { map (λ (f : FrontView). f.base) fronts.now ≡ sources J.plan }
+        ensures floors { IfOk result (λ c. c.floors ≡ even_floors J.plan (map (λ (f : FrontView). f.len) fronts.now)) }
+        ensures seen { IfOk result (λ c. IsPrefix part.now c.seen) }
+        ensures fronts { IfOk result (λ c. Each (IsReached c.seen) fronts.now) }
+    {
+        let (line, seen) = line_of_fronts(alloc, part, fronts)?;
+        let floors = Floors::even(alloc, plan, line.as_slice())?;
+        Ok(Cuts {
+            floors,
+            seen,
+            of: PhantomData,
+        })
+    }
+}
+
+// The length of each front, and a history in which all of them were reached.
+fn line_of_fronts<J: Naming>(
+    alloc: Global,
+    part: &Part<J>,
+    fronts: &[Front<J>],
+) -> Result<(Vec<u64>, Seen<LogPage, u64, Law>), AllocError>
+    ensures line { IfOk result (λ r. r.0.items ≡ map (λ (f : FrontView). f.len) fronts.now) }
+    ensures book { IfOk result (λ r. r.1.book ≡ J.book) }
+    ensures log { IfOk result (λ r. IsLogOf J.plan J.sessions r.1.log) }
+    ensures part { IfOk result (λ r. IsPrefix part.now (history_of r.1.log)) }
+    ensures fronts { IfOk result (λ r. Each (IsReached (history_of r.1.log)) fronts.now) }
+{
+    let mut line = Vec::new(alloc);
+    let mut seen = part.whole();
+    for front in fronts {
+        line.push(front.len)?;
+        learn::<J>(&mut seen, &front.seen);
+    }
+    Ok((line, seen))
 }
 
 impl<J: Naming> Cut<J> {

@@ -1,5 +1,5 @@
 //! Entries of a log.
-ghost use Rattle.std.specs.Prelude.{◌≡◌, ◌<◌, length, IfOk};
+ghost use Rattle.std.specs.Prelude.{◌≡◌, ◌<◌, ◌↔◌, length, IfOk, IsTrue};
 ghost use Rattle.row.specs.Cells.{datum_of, cell_at};
 ghost use Rattle.book.specs.Logs.{fits, key_of};
 ghost use Rattle.book.specs.Entries.{change_of};
@@ -31,6 +31,19 @@ impl Entry {
         }
     }
 
+    /// Whether the two are one entry. Cost: the length of the row.
+    pub fn is_same(&self, other: &Entry) -> bool
+        ensures same { IsTrue result → change_of self.now ≡ change_of other.now }
+        ensures sure { change_of self.now ≡ change_of other.now → IsTrue result }
+    {
+        match (self, other) {
+            (Entry::Insert(row), Entry::Insert(another)) => same_row(row, another),
+            (Entry::Delete(key), Entry::Delete(another)) => key.is_same(another),
+            (Entry::Update(row), Entry::Update(another)) => same_row(row, another),
+            _ => false,
+        }
+    }
+
     /// A second entry that is equal. Copies its row or key.
     pub fn copied(&self, alloc: Global) -> Result<Entry, AllocError>
         ensures { IfOk result (λ e. change_of e ≡ change_of self.now) }
@@ -41,4 +54,10 @@ impl Entry {
             Entry::Update(row) => Ok(Entry::Update(row.copied(alloc)?)),
         }
     }
+}
+
+fn same_row(row: &Row, other: &Row) -> bool
+    ensures { IsTrue result ↔ (row.now ≡ other.now) }
+{
+    row == other
 }

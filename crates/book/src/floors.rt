@@ -1,7 +1,7 @@
 //! Floors of a session.
 ghost use Rattle.std.specs.Prelude.{◌≡◌, ◌<◌, [], length, slice_index_or, replicate, IfOk, ℕ};
 ghost use Rattle.book.specs.Histories.{floor_at};
-ghost use Rattle.book.specs.Sessions.{with_floor, IsTable};
+ghost use Rattle.book.specs.Sessions.{with_floor, even_floors, IsTable};
 
 use crate::cut::Lengths;
 use plan::plan::Plan;
@@ -36,6 +36,18 @@ impl Floors {
         Ok(Floors { rows })
     }
 
+    /// The same line for each stage shard, at each shard of each view. Refused for want of memory
+    /// alone.
+    pub fn even(alloc: Global, plan: &Plan, line: &[u64]) -> Result<Floors, AllocError>
+        ensures { IfOk result (λ f. f ≡ even_floors plan.now line.now) }
+    {
+        let mut rows = Vec::new(alloc);
+        for view in 0..plan.views() {
+            rows.push(even_row(alloc, plan.view(view).shards(), plan.stages(), line)?)?;
+        }
+        Ok(Floors { rows })
+    }
+
     /// Sets the floor at a shard of a view.
     pub fn set(&mut self, view: usize, shard: usize, cut: Lengths)
         requires view { view < length self.old }
@@ -53,6 +65,21 @@ fn zero_row(alloc: Global, count: usize) -> Result<Vec<Lengths>, AllocError>
     let mut row = Vec::new(alloc);
     for _shard in 0..count {
         row.push(Lengths::empty(alloc))?;
+    }
+    Ok(row)
+}
+
+fn even_row(
+    alloc: Global,
+    count: usize,
+    stages: usize,
+    line: &[u64],
+) -> Result<Vec<Lengths>, AllocError>
+    ensures { IfOk result (λ v. v.items ≡ replicate count (replicate stages line.now)) }
+{
+    let mut row = Vec::new(alloc);
+    for _shard in 0..count {
+        row.push(Lengths::even(alloc, stages, line)?)?;
     }
     Ok(row)
 }

@@ -8,11 +8,12 @@ ghost use Rattle.book.specs.Fronts.{FrontView, entries, authors, IsAppended, IsM
 ghost use Rattle.book.specs.Histories.{Author, log_of};
 ghost use Rattle.book.specs.Legal.{limit, IsLegal};
 ghost use Rattle.book.specs.Logs.{fits, key_of, lawful};
-ghost use Rattle.book.specs.Pages.{opens};
+ghost use Rattle.book.specs.Pages.{opens, IsLogOf, history_of};
 ghost use Rattle.book.specs.Places.{base_count, layout_of, shard_of};
 
 use crate::entry::Entry;
 use crate::law::{Add, Law, LogPage, Naming};
+use crate::part::Part;
 use crate::shared::SharedBook;
 use crate::step::{learn, look_at, try_add};
 use logbook::{Plain, Seen};
@@ -73,6 +74,36 @@ impl<J: Naming> Front<J> {
             seen,
             of: PhantomData,
         }
+    }
+
+    /// The empty front of a base shard, with what was seen.
+    pub(crate) fn unread(base: usize, seen: Seen<LogPage, u64, Law>) -> Front<J>
+        requires book { seen.book ≡ J.book }
+        requires log { IsLogOf J.plan J.sessions seen.log }
+        requires base { base < base_count J.plan }
+        ensures { result ≡ record { base = base; len = 0; seen = history_of seen.log } }
+    {
+        Front {
+            base,
+            len: 0,
+            seen,
+            of: PhantomData,
+        }
+    }
+
+    /// The number of its base shard.
+    pub fn base(&self) -> usize
+        ensures base { result ≡ self.now.base }
+        ensures range { self.now.base < base_count J.plan }
+    {
+        self.base
+    }
+
+    /// All that was seen with it.
+    pub fn part(&self) -> Part<J>
+        ensures part { result ≡ self.now.seen }
+    {
+        Part::of(&self.seen)
     }
 
     /// How many entries it has. What was seen is a legal history, whose log is no shorter.

@@ -7,6 +7,7 @@ pub mod entry;
 pub mod floors;
 pub mod front;
 pub mod law;
+pub mod part;
 pub mod places;
 pub mod reply;
 pub mod session;

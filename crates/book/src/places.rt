@@ -1,8 +1,11 @@
 //! Numbers of base shards.
-ghost use Rattle.std.specs.Prelude.{◌≡◌, ◌≤◌};
-ghost use Rattle.book.specs.Places.{base_count};
+ghost use Rattle.std.specs.Prelude.{◌≡◌, ◌≤◌, ◌<◌, ◌++◌, length, IfOk, OnOk};
+ghost use Rattle.plan.specs.Layouts.{table_at};
+ghost use Rattle.book.specs.Places.{base_at, base_count, layout_of, shard_of, side_bases, sources};
 
 use plan::plan::Plan;
+use plan::stage::Side;
+use std::alloc::{AllocError, Global};
 
 /// How many base shards the plan has: the shards of all its tables, at most 64.
 pub fn base_count(plan: &Plan) -> usize
@@ -14,4 +17,46 @@ pub fn base_count(plan: &Plan) -> usize
         count += plan.table(place).shards();
     }
     count
+}
+
+/// The number of a shard of a table. Cost: the number of tables.
+pub fn base_at(plan: &Plan, table: usize, shard: usize) -> usize
+    requires table { table < length plan.now.tables }
+    requires shard { shard < (table_at plan.now table).shards }
+    ensures number { result ≡ base_at plan.now table shard }
+    ensures range { result < base_count plan.now }
+    ensures table { layout_of plan.now result ≡ table_at plan.now table }
+    ensures shard { shard_of plan.now result ≡ shard }
+{
+    plan.keeps_profile();
+    let mut before = 0;
+    for place in 0..table {
+        before += plan.table(place).shards();
+    }
+    before + shard
+}
+
+/// The base shards that are sources of the stage: the shards of the left table in order, then
+/// those of the right one. Refused for want of memory alone.
+pub fn sources(alloc: Global, plan: &Plan) -> Result<Vec<usize>, AllocError>
+    ensures { IfOk result (λ v. v.items ≡ sources plan.now) }
+{
+    plan.keeps_profile();
+    let mut bases = Vec::new(alloc);
+    push_bases(plan, plan.left(), &mut bases)?;
+    if let Some(side) = plan.right() {
+        push_bases(plan, side, &mut bases)?;
+    }
+    Ok(bases)
+}
+
+// Adds the shards of the side's table, in order.
+fn push_bases(plan: &Plan, side: &Side, bases: &mut Vec<usize>) -> Result<(), AllocError>
+    requires table { side.now.table < length plan.now.tables }
+    ensures { OnOk result (bases.new.items ≡ bases.old.items ++ side_bases plan.now side.now) }
+{
+    for shard in 0..plan.table(side.table()).shards() {
+        bases.push(base_at(plan, side.table(), shard))?;
+    }
+    Ok(())
 }

@@ -5,7 +5,7 @@ ghost use Rattle.row.specs.Bags.{Each};
 ghost use Rattle.row.specs.Cells.{shard};
 ghost use Rattle.book.specs.Entries.{change_of};
 ghost use Rattle.book.specs.Fronts.{IsAppended, IsMoved, entries, authors};
-ghost use Rattle.book.specs.Histories.{Author, log_of, write};
+ghost use Rattle.book.specs.Histories.{Author, log_of, authors_of, write};
 ghost use Rattle.book.specs.Legal.{limit};
 ghost use Rattle.book.specs.Logs.{fits, key_of, lawful};
 ghost use Rattle.book.specs.Places.{layout_of, shard_of};
@@ -14,6 +14,7 @@ ghost use Rattle.book.specs.Replies.{WrittenView, IsAfter, IsWhole, longer};
 use crate::entry::Entry;
 use crate::front::Front;
 use crate::law::{Law, LogPage, Naming};
+use crate::part::Part;
 use crate::shared::SharedBook;
 use crate::step::{learn, look_at};
 use logbook::Seen;
@@ -42,28 +43,6 @@ impl<J: Naming> Model for Written<J> {
     ghost view = { λ w. record { session = w.session; number = w.number; base = w.base; index = w.index; entry = change_of w.entry; seen = history_of w.seen.log } };
 
     ghost invariant = { λ w. (w.seen.book ≡ J.book) × IsLogOf J.plan J.sessions w.seen.log × IsWritten (record { session = w.session; number = w.number; base = w.base; index = w.index; entry = change_of w.entry; seen = history_of w.seen.log }) };
-}
-
-/// What a session has seen, as the longer of two parts.
-#[derive(Drop)]
-pub struct Part<J: Naming> {
-    first: Seen<LogPage, u64, Law>,
-    second: Seen<LogPage, u64, Law>,
-    of: PhantomData<J>,
-}
-
-impl<J: Naming> Model for Part<J> {
-    ghost use Rattle.std.specs.Prelude.{◌≡◌, ◌⊎◌, List};
-    ghost use mathlib.Core.List.{IsPrefix};
-    ghost use Rattle.book.specs.Histories.{Item};
-    ghost use Rattle.book.specs.Pages.{IsLogOf, history_of};
-    ghost use Rattle.book.specs.Replies.{longer};
-
-    ghost Value = { List Item };
-
-    ghost view = { λ x. longer (history_of x.first.log) (history_of x.second.log) };
-
-    ghost invariant = { λ x. (x.first.book ≡ J.book) × (x.second.book ≡ J.book) × IsLogOf J.plan J.sessions x.first.log × IsLogOf J.plan J.sessions x.second.log };
 }
 
 impl<J: Naming> Front<J> {
@@ -121,13 +100,14 @@ impl<J: Naming> Front<J> {
         true
     }
 
-    /// Takes the front that decided a refusal. What has then been seen has that very log.
+    /// Takes the front that decided a refusal. What has then been seen has that very log, entry for
+    /// entry and author for author.
     pub fn adopt(self, other: Front<J>) -> Option<Part<J>>
         requires whole { IsWhole self }
         requires other { IsWhole other }
         requires base { self.base ≡ other.base }
         ensures sure { self.len ≤ other.len → IsSome result }
-        ensures told { IfSome result (λ p. IsPrefix self.seen p × IsPrefix other.seen p × (log_of other.base p ≡ log_of other.base other.seen)) }
+        ensures told { IfSome result (λ p. IsPrefix self.seen p × IsPrefix other.seen p × (log_of other.base p ≡ log_of other.base other.seen) × (authors_of other.base p ≡ authors_of other.base other.seen)) }
     {
         if other.len < self.len {
             return None;

@@ -14,6 +14,7 @@ use crate::cut::{Cut, Cuts, Lengths, Place};
 use crate::floors::Floors;
 use crate::front::Front;
 use crate::law::{Add, Law, LogPage, Naming};
+use crate::part::Part;
 use crate::shared::SharedBook;
 use crate::step::{learn, try_add};
 use logbook::{Plain, Seen};
@@ -105,6 +106,31 @@ impl<J: Naming> SessionWord<J> {
             seen: front.seen.again(),
             of: PhantomData,
         })
+    }
+
+    /// All that it has seen.
+    pub fn part(&self) -> Part<J>
+        ensures part { result ≡ self.now.seen }
+    {
+        Part::of(&self.seen)
+    }
+
+    /// Sees what the part has, too.
+    pub fn learn(&mut self, part: &Part<J>)
+        ensures seen { IsPrefix self.old.seen self.new.seen }
+        ensures others { IsPrefix part.now self.new.seen }
+        ensures floors { self.new.floors ≡ self.old.floors }
+        ensures answered { self.new.answered ≡ self.old.answered }
+        ensures session { self.new.session ≡ self.old.session }
+    {
+        learn::<J>(&mut self.seen, &part.whole());
+    }
+
+    /// How often it has answered.
+    pub fn answered(&self) -> u64
+        ensures answered { result ≡ self.now.answered }
+    {
+        self.answered
     }
 
     /// Of what the two have seen one begins the other. Afterwards both have seen the same, which is no less than either had.

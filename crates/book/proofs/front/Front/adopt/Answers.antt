@@ -4,7 +4,7 @@ use Rattle.book.specs.Histories.{log_of}
 use Rattle.book.specs.Pages.{history_of}
 use Rattle.book.proofs.Prefixes.{prefix_either}
 use Rattle.book.proofs.Steps.{seen_more}
-use Rattle.book.proofs.Replies.{longer_both, log_adopted}
+use Rattle.book.proofs.Replies.{longer_both, log_adopted, authors_adopted}
 use Rattle.book.proofs.front.Front.adopt.Goals as goal
 
 pub returns-clause-told : goal.returns-clause-told
@@ -20,4 +20,4 @@ returns-clause-told g c =
     let whole' : c.other.inside.len ≡ length (log_of c.other.inside.base ys) = let w = c.requires.other in rw (← c.other.view_is) at w in
     let here : c.self.inside.len ≡ length (log_of c.other.inside.base xs) = rw same at whole in
     let le : length (log_of c.other.inside.base xs) ≤ length (log_of c.other.inside.base ys) = omega (arith, here, whole', c.if-other-self.false) in
-    rw (← c.self.view_is, ← c.other.view_is) (both.0, both.1, log_adopted c.other.inside.base xs ys either le)
+    rw (← c.self.view_is, ← c.other.view_is) (both.0, both.1, log_adopted c.other.inside.base xs ys either le, authors_adopted c.other.inside.base xs ys either le)
