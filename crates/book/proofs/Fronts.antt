@@ -80,6 +80,11 @@ entries_later p v w b len f pre =
     let r = rest_of v w pre in
     rw (r.1, flat_map-append (entry_in b) (history_of v) r.0) (take-append-le len (log_of b (history_of v)) (log_of b r.0) f.len)
 
+pub authors_later : (p : Layout) (v w : List Page) (b len : ℕ) → IsFront p (front_at b len v) → IsPrefix v w → authors (front_at b len w) ≡ authors (front_at b len v)
+authors_later p v w b len f pre =
+    let r = rest_of v w pre in
+    rw (r.1, flat_map-append (author_in b) (history_of v) r.0) (take-append-le len (authors_of b (history_of v)) (authors_of b r.0) (omega (arith, f.len, length_authors b (history_of v))))
+
 pub moved : (p : Layout) (v w : List Page) (b len found : ℕ) → IsFront p (front_at b len v) → IsPrefix v w → found ≢ len → found ≡ count_at p b (history_of w) → IsMoved (front_at b len v) (front_at b len w)
 moved p v w b len found f pre off is =
     let g = front_later p v w b len f pre in

@@ -133,6 +133,7 @@ impl<J: Naming> Front<J> {
         ensures len { self.new.len ≡ self.old.len }
         ensures seen { IsPrefix self.old.seen self.new.seen }
         ensures entries { entries self.new ≡ entries self.old }
+        ensures authors { authors self.new ≡ authors self.old }
         ensures found { result ≡ length (log_of self.new.base self.new.seen) }
     {
         look_at(book, self.base, &mut self.seen)

@@ -45,6 +45,25 @@ impl<J: Naming> Model for Written<J> {
     ghost invariant = { λ w. (w.seen.book ≡ J.book) × IsLogOf J.plan J.sessions w.seen.log × IsWritten (record { session = w.session; number = w.number; base = w.base; index = w.index; entry = change_of w.entry; seen = history_of w.seen.log }) };
 }
 
+impl<J: Naming> Written<J> {
+    /// Whether it is the reply to this write. Cost: the length of the entry.
+    pub fn is_of(&self, session: u64, number: u64, base: usize, entry: &Entry) -> bool
+        ensures same { IsTrue result → (self.now.session ≡ session) × (self.now.number ≡ number) × (self.now.base ≡ base) × (self.now.entry ≡ change_of entry.now) }
+    {
+        self.session == session
+            && self.number == number
+            && self.base == base
+            && self.entry.is_same(entry)
+    }
+
+    /// The index at which its entry stands.
+    pub fn index(&self) -> u64
+        ensures { result ≡ self.now.index }
+    {
+        self.index
+    }
+}
+
 impl<J: Naming> Front<J> {
     /// Appends, and gives the reply; or the entry back where the log has moved.
     pub fn write(

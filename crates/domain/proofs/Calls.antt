@@ -1,0 +1,141 @@
+-- Numbers of calls, and what a domain's check says of its log.
+use Rattle.std.proofs.Common.{◌≡◌, ℕ, zero, suc, ◌+◌, ◌<◌, ◌≤◌, ◌==◌, nat_le, Bool, true, false, cond, List, [], ◌∷◌, ◌++◌, length, take, take_all, slice_index_or, slice_set, Option, Some, None, Result, Ok, Err, IfErr, refl, ap, sym, ◌∙◌, subst, arith, ◌⊎◌, inl, inr}
+use Rattle.std.proofs.lemmas.Bool.Decides.{nat_tests}
+use Rattle.std.proofs.lemmas.List.{get_or-set_other}
+use Rattle.std.proofs.lemmas.Grind.{get_or-set_at}
+use Rattle.row.specs.Bags.{Each}
+use Rattle.row.specs.Cells.{cell_at}
+use Rattle.row.proofs.BagLemmas.{Each-weaker}
+use Rattle.row.specs.declared.refused.Refused.{Refused}
+use Rattle.row.specs.declared.refused.Refused.TheVariants.{NoMemory, Duplicate, Absent, LogFull, Stopped}
+use Rattle.plan.specs.Layouts.{Layout}
+use Rattle.book.specs.Logs.{Change, inserts, deletes, updates, lawful, is_held, rows_of}
+use Rattle.book.specs.Places.{layout_of}
+use Rattle.book.specs.Histories.{Author, log_of, authors_of}
+use Rattle.book.specs.Refusals.{full, refusal, refusal_over}
+use Rattle.book.specs.Legal.{limit}
+use Rattle.book.specs.Fronts.{FrontView, entries, authors, IsAppended}
+use Rattle.book.proofs.Fronts.{length_authors}
+use Rattle.base.specs.Shards.{Shard, IsAt, verdict}
+use Rattle.base.proofs.Fronts as stands
+use Rattle.domain.specs.Messages.{WriteView, DeclinedView, IsDecision, IsDecided}
+use Rattle.domain.specs.Bases.{Domain, IsBelow, IsDomain, IsAnswer, Rests, Stops, Declines, refusal_at}
+
+-- ---- numbers
+below_of : (next : List ℕ) (s m : ℕ) → slice_index_or next s 0 ≤ m → (a : Author) → IsBelow next a → a.session ≡ s → a.number < m
+below_of next s m low a below is = let same : slice_index_or next a.session 0 ≡ slice_index_or next s 0 = ap (λ x. slice_index_or next x 0) is in omega (arith, below, same, low)
+
+-- no author has the number of a call that may come next
+pub absent : (next : List ℕ) (s m : ℕ) (list : List Author) → Each (IsBelow next) list → slice_index_or next s 0 ≤ m → Each (λ (a : Author). a.session ≡ s → a.number < m) list
+absent next s m list each low = Each-weaker (IsBelow next) (λ (a : Author). a.session ≡ s → a.number < m) (below_of next s m low) list each
+
+raised : (next : List ℕ) (s m : ℕ) (a : Author) → s < length next → slice_index_or next s 0 ≤ m → IsBelow next a → (t : Bool) → (a.session == s) ≡ t → IsBelow (slice_set next s (m + 1)) a
+raised next s m a within low below true is =
+    let same : a.session ≡ s = grind (arith, nat_tests) in
+    let e : slice_index_or (slice_set next s (m + 1)) a.session 0 ≡ m + 1 = get_or-set_at next s a.session (m + 1) 0 same within in
+    let f : slice_index_or next a.session 0 ≡ slice_index_or next s 0 = ap (λ x. slice_index_or next x 0) same in
+    rw e (omega (arith, below, f, low))
+raised next s m a within low below false is =
+    let other : ¬ (a.session ≡ s) = λ (e : a.session ≡ s). absurd (grind (arith, nat_tests)) in
+    rw (get_or-set_other next s a.session (m + 1) 0 other) below
+
+each_push : {X : Type 0} (P : X → Type 0) (xs : List X) (y : X) → Each P xs → P y → Each P (xs ++ y ∷ [])
+each_push P [] y h q = (q, tt)
+each_push P (x ∷ xs) y h q = (h.0, each_push P xs y h.1 q)
+
+pub numbers_next : (next : List ℕ) (s m : ℕ) (list : List Author) → s < length next → slice_index_or next s 0 ≤ m → Each (IsBelow next) list → Each (IsBelow (slice_set next s (m + 1))) (list ++ record { session = s; number = m } ∷ [])
+numbers_next next s m list within low each =
+    let e : slice_index_or (slice_set next s (m + 1)) s 0 ≡ m + 1 = get_or-set_at next s s (m + 1) 0 refl within in
+    each_push (IsBelow (slice_set next s (m + 1))) list (record { session = s; number = m })
+    (Each-weaker (IsBelow next) (IsBelow (slice_set next s (m + 1))) (λ a below. raised next s m a within low below (a.session == s) refl) list each)
+    (omega (arith, e))
+
+-- ---- refusals
+chosen_second : (b : Bool) (r : Refused) (o : Option Refused) → cond b (Some r) o ≡ None → (b ≡ false) × (o ≡ None)
+chosen_second true r o e = absurd cc
+chosen_second false r o e = (refl, e)
+
+chosen_first : (b : Bool) (r : Refused) (o : Option Refused) → cond b o (Some r) ≡ None → (b ≡ true) × (o ≡ None)
+chosen_first true r o e = (refl, e)
+chosen_first false r o e = absurd cc
+
+below_limit : (most n : ℕ) → full most n ≡ None → n < most
+below_limit most n e = let is = (chosen_second (nat_le most n) LogFull None e).0 in grind (arith, nat_tests)
+
+-- what is not refused is lawful, and finds room
+pub unrefused : (key most : ℕ) (front : List Change) (e : Change) → refusal key most front e ≡ None → (lawful key front e ≡ true) × (length front < most)
+unrefused key most front (inserts r) h =
+    let c = chosen_second (is_held key (rows_of key front) (cell_at r key)) Duplicate (full most (length front)) h in
+    (rw c.0 refl, below_limit most (length front) c.1)
+unrefused key most front (deletes k) h =
+    let c = chosen_first (is_held key (rows_of key front) k) Absent (full most (length front)) h in
+    (c.0, below_limit most (length front) c.1)
+unrefused key most front (updates r) h =
+    let c = chosen_first (is_held key (rows_of key front) (cell_at r key)) Absent (full most (length front)) h in
+    (c.0, below_limit most (length front) c.1)
+
+-- the shard's refusal is that at the domain's front
+pub shard_refusal : (p : Layout) (sh : Shard) (f : FrontView) (next : List ℕ) (e : Change) → IsDomain p sh f next → refusal sh.key sh.limit (entries f) e ≡ refusal_at p f e
+shard_refusal p sh f next e d = ap (λ k. refusal k sh.limit (entries f) e) d.key ∙ ap (λ k. refusal (layout_of p f.base).key k (entries f) e) d.room
+
+-- and that over its rows
+pub rows_refusal : (p : Layout) (sh : Shard) (f : FrontView) (next : List ℕ) (e : Change) → IsDomain p sh f next → refusal_over sh.key sh.limit sh.rows sh.length e ≡ refusal_at p f e
+rows_refusal p sh f next e d = stands.refusal_at sh (entries f) e d.at ∙ shard_refusal p sh f next e d
+
+pub free_verdict : (u : Unit {0}) (o : Option Refused) → Ok u ≡ verdict o → o ≡ None
+free_verdict u None e = refl
+free_verdict u (Some r) e = absurd cc
+
+pub refused_verdict : (r : Refused) (o : Option Refused) → Err r ≡ verdict o → o ≡ Some r
+refused_verdict r None e = absurd cc
+refused_verdict r (Some q) e = cc
+
+-- ---- a front that has all of its log
+pub decided : (p : Layout) (f g : FrontView) (next : List ℕ) (s m : ℕ) (e : Change) (r : Refused) → g.base ≡ f.base → entries g ≡ entries f → authors g ≡ authors f → g.len ≡ length (log_of g.base g.seen) → Each (IsBelow next) (authors f)
+    → slice_index_or next s 0 ≤ m → refusal_at p f e ≡ Some r → IsDecided p (record { session = s; number = m; entry = e; refused = r; front = g })
+decided p f g next s m e r base same by whole each low why =
+    let log : entries g ≡ log_of g.base g.seen = take_all g.len (log_of g.base g.seen) (omega (arith, whole)) in
+    let who : authors g ≡ authors_of g.base g.seen = take_all g.len (authors_of g.base g.seen) (omega (arith, whole, length_authors g.base g.seen)) in
+    record {
+      whole = whole;
+      why = ap (λ l. refusal (layout_of p g.base).key limit l e) (sym log ∙ same) ∙ (ap (λ b. refusal (layout_of p b).key limit (entries f) e) base ∙ why);
+      absent = subst (λ (list : List Author). Each (λ (a : Author). a.session ≡ s → a.number < m) list) (sym by ∙ who) (absent next s m (authors f) each low);
+    }
+
+-- ---- the domain after an accepted write
+pub domain_next : (p : Layout) (sh new : Shard) (f g : FrontView) (next : List ℕ) (s m : ℕ) (e : Change) → IsDomain p sh f next → IsAppended p f s m e g → IsAt new (entries f ++ e ∷ []) → new.key ≡ sh.key → new.limit ≡ sh.limit → s < length next → slice_index_or next s 0 ≤ m
+    → IsDomain p new g (slice_set next s (m + 1))
+domain_next p sh new f g next s m e d a at key room within low = record {
+  at = subst (λ (l : List Change). IsAt new l) (sym a.entries) at;
+  len = a.len ∙ (ap (λ n. n + 1) d.len ∙ (sym (length_push (entries f) e) ∙ ap length (sym a.entries)));
+  key = key ∙ (d.key ∙ ap (λ b. (layout_of p b).key) (sym a.base));
+  room = room ∙ d.room;
+  numbers = subst (λ (list : List Author). Each (IsBelow (slice_set next s (m + 1))) list) (sym a.authors) (numbers_next next s m (authors f) within low d.numbers);
+}
+  where
+    length_push : {X : Type 0} (xs : List X) (x : X) → length (xs ++ x ∷ []) ≡ length xs + 1
+    length_push [] x = refl
+    length_push (y ∷ xs) x = let rest = length_push xs x in omega (arith, rest)
+
+-- a stop is no decision of a log
+pub no_decision : IsDecision Stopped → ⊥
+no_decision (inl e) = absurd (cc e)
+no_decision (inr (inl e)) = absurd (cc e)
+no_decision (inr (inr e)) = absurd (cc e)
+
+-- shards of one content refuse the same
+pub same_refusal : (a b : Shard) (e f : Change) → a.key ≡ b.key → a.limit ≡ b.limit → a.rows ≡ b.rows → a.length ≡ b.length → e ≡ f → refusal_over a.key a.limit a.rows a.length e ≡ refusal_over b.key b.limit b.rows b.length f
+same_refusal a b e f key most rows len is = cc
+
+-- ---- what was declined, and why
+pub declines_refused : (p : Layout) (old : Domain) (w : WriteView) (d : DeclinedView) (new : Domain) (r : Refused) → refusal_at p old.front w.entry ≡ Some r → IsAnswer w d → ((d.refused ≡ r) × (new ≡ old)) ⊎ Stops old d new → Declines p old w d new
+declines_refused p old w d new r why answer (inl x) = record { answer = answer; why = inr (inr (inl (x.1, why ∙ ap Some (sym x.0)))) }
+declines_refused p old w d new r why answer (inr x) = record { answer = answer; why = inr (inr (inr x)) }
+
+pub declines_memory : (p : Layout) (old : Domain) (w : WriteView) (d : DeclinedView) (new : Domain) → refusal_at p old.front w.entry ≡ None → IsAnswer w d → ((d.refused ≡ NoMemory) × (new ≡ old)) ⊎ Stops old d new → Declines p old w d new
+declines_memory p old w d new free answer (inl x) = record { answer = answer; why = inr (inl (record { refused = x.0; same = x.1 }, free)) }
+declines_memory p old w d new free answer (inr x) = record { answer = answer; why = inr (inr (inr x)) }
+
+pub both_err : {A E : Type 0} {P Q R : E → Type 0} (r : Result A E) → IfErr r P → IfErr r Q → ((d : E) → P d → Q d → R d) → IfErr r R
+both_err (Ok a) p q f = tt
+both_err (Err d) p q f = f d p q

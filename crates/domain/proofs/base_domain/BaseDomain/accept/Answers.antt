@@ -1,0 +1,33 @@
+use Rattle.std.proofs.Common.{◌≡◌, ◌<◌, ℕ, List, Option, ◌++◌, ◌∷◌, [], length, ap, sym, ◌∙◌, subst}
+use Rattle.row.specs.Bags.{Each}
+use Rattle.book.specs.Entries.{change_of}
+use Rattle.book.specs.Histories.{Author}
+use Rattle.book.specs.Logs.{Change}
+use Rattle.book.specs.Fronts.{FrontView, entries, authors, IsAppended}
+use Rattle.book.specs.Refusals.{refusal_over}
+use Rattle.base.specs.Shards.{Shard, IsAt}
+use Rattle.domain.specs.Bases.{Domain}
+use Rattle.domain.proofs.Calls.{absent, rows_refusal, same_refusal, domain_next}
+use Rattle.domain.proofs.base_domain.BaseDomain.accept.Goals as goal
+
+pub write-requires-clause-number : goal.write-requires-clause-number
+write-requires-clause-number g c κs le =
+    let rises = rw (← c.self.view_is, ← c.write.view_is) at c.requires.rises in
+    subst (λ (f : FrontView). Each (λ (a : Author). a.session ≡ c.write.inside.session → a.number < c.write.inside.number) (authors f)) (sym c.again-front.ensures) (absent c.self.inside.next.items c.write.inside.session c.write.inside.number (authors c.self.inside.front) c.self.invariant.numbers rises)
+
+pub commit-requires-clause-lawful : goal.commit-requires-clause-lawful
+commit-requires-clause-lawful g c =
+    let e = c.in-Ok.ensures in
+    let free = rw (← c.self.view_is, ← c.write.view_is) at c.requires.free in
+    same_refusal c.room_for.new.shard c.self.inside.shard (change_of c.in-Ok.kept) (change_of c.write.inside.entry) e.key e.limit e.rows e.length e.kept
+    ∙ (rows_refusal g.J.Naming.plan c.self.inside.shard c.self.inside.front c.self.inside.next.items (change_of c.write.inside.entry) c.self.invariant ∙ free)
+
+pub invariant_of-self-in-Ok-write : goal.invariant_of-self-in-Ok-write
+invariant_of-self-in-Ok-write g c =
+    let e = c.in-Ok.ensures in
+    let rises = rw (← c.self.view_is, ← c.write.view_is) at c.requires.rises in
+    let place = rw (← c.self.view_is, ← c.write.view_is) at c.requires.place in
+    let f = c.self.inside.front in
+    let appended = rw c.again-front.ensures at c.in-Ok-write.ensures.accepted.0 in
+    let at : IsAt c.commit.new.self (entries f ++ change_of c.write.inside.entry ∷ []) = subst (λ (x : Change). IsAt c.commit.new.self (entries f ++ x ∷ [])) e.kept (c.commit.ensures.front (entries f) (e.front (entries f) c.self.invariant.at)) in
+    domain_next g.J.Naming.plan c.self.inside.shard c.commit.new.self f c.write-2.new.self c.self.inside.next.items c.write.inside.session c.write.inside.number (change_of c.write.inside.entry) c.self.invariant appended at (c.commit.ensures.key ∙ e.key) (c.commit.ensures.limit ∙ e.limit) place rises

@@ -1,0 +1,67 @@
+-- A base domain: one base shard, the front of its log, and the calls that it has seen.
+use Rattle.std.specs.Prelude.{◌≡◌, ◌⊎◌, ℕ, ◌+◌, ◌<◌, Bool, true, false, List, length, slice_index_or, slice_set, Option, Some, None}
+use Rattle.row.specs.Bags.{Each}
+use Rattle.row.specs.declared.refused.Refused.{Refused}
+use Rattle.row.specs.declared.refused.Refused.TheVariants.{NoMemory, Stopped}
+use Rattle.plan.specs.Layouts.{Layout}
+use Rattle.book.specs.Logs.{Change}
+use Rattle.book.specs.Places.{layout_of}
+use Rattle.book.specs.Histories.{Author}
+use Rattle.book.specs.Legal.{limit}
+use Rattle.book.specs.Fronts.{FrontView, entries, authors, IsAppended, IsMoved}
+use Rattle.book.specs.Refusals.{refusal}
+use Rattle.book.specs.Replies.{WrittenView}
+use Rattle.base.specs.Shards.{Shard, IsAt}
+use Rattle.domain.specs.Messages.{WriteView, DeclinedView, IsDecision}
+
+-- its front, for each session the least number that its next write may have, and whether it has stopped
+pub record Domain : Type 0 where
+  pub front : FrontView
+  pub next : List ℕ
+  pub stopped : Bool
+
+-- the author's number is below its session's next
+abbrev pub IsBelow : List ℕ → Author → Type 0
+IsBelow next a = a.number < slice_index_or next a.session 0
+
+-- the shard stands at the front, under its table's key and the limit of a log, and the next numbers are above all in it
+pub record IsDomain (p : Layout) (shard : Shard) (f : FrontView) (next : List ℕ) : Type 0 where
+  pub at : IsAt shard (entries f)
+  pub len : f.len ≡ length (entries f)
+  pub key : shard.key ≡ (layout_of p f.base).key
+  pub room : shard.limit ≡ limit
+  pub numbers : Each (IsBelow next) (authors f)
+
+-- the refusal of the entry at the domain's front
+abbrev pub refusal_at : Layout → FrontView → Change → Option Refused
+refusal_at p f e = refusal (layout_of p f.base).key limit (entries f) e
+
+-- the write's entry was appended, under its session and number, and the reply says so
+pub record Takes (p : Layout) (old : Domain) (w : WriteView) (r : WrittenView) (new : Domain) : Type 0 where
+  pub free : refusal_at p old.front w.entry ≡ None
+  pub appended : IsAppended p old.front w.session w.number w.entry new.front
+  pub reply : r ≡ record { session = w.session; number = w.number; base = old.front.base; index = old.front.len; entry = w.entry; seen = new.front.seen }
+  pub next : new.next ≡ slice_set old.next w.session (w.number + 1)
+  pub running : new.stopped ≡ false
+
+-- it is the answer to the write
+pub record IsAnswer (w : WriteView) (d : DeclinedView) : Type 0 where
+  pub session : d.session ≡ w.session
+  pub number : d.number ≡ w.number
+  pub entry : d.entry ≡ w.entry
+
+-- the domain's word was seen to have moved, and it stopped
+pub record Stops (old : Domain) (d : DeclinedView) (new : Domain) : Type 0 where
+  pub refused : d.refused ≡ Stopped
+  pub moved : IsMoved old.front d.front
+  pub stopped : new ≡ record { front = old.front; next = old.next; stopped = true }
+
+-- it was declined with this refusal, and nothing changed
+pub record Rests (old : Domain) (d : DeclinedView) (r : Refused) (new : Domain) : Type 0 where
+  pub refused : d.refused ≡ r
+  pub same : new ≡ old
+
+-- the write was not accepted: the domain had stopped, its log refuses the entry, memory was refused, or its word had moved
+pub record Declines (p : Layout) (old : Domain) (w : WriteView) (d : DeclinedView) (new : Domain) : Type 0 where
+  pub answer : IsAnswer w d
+  pub why : Rests old d Stopped new × (old.stopped ≡ true) ⊎ Rests old d NoMemory new × (refusal_at p old.front w.entry ≡ None) ⊎ (new ≡ old) × (refusal_at p old.front w.entry ≡ Some d.refused) ⊎ Stops old d new

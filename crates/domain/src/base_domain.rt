@@ -1,0 +1,258 @@
+//! The domain of one base shard.
+ghost use Rattle.std.specs.Prelude.{◌≡◌, ◌⊎◌, ℕ, ◌<◌, ◌≤◌, List, true, false, length, replicate, slice_index_or, IfOk, OnOk, IfErr, IfSome, IfNone, IsTrue, IsFalse, None, Some};
+ghost use Rattle.plan.specs.Layouts.{table_at};
+ghost use Rattle.book.specs.Entries.{change_of};
+ghost use Rattle.book.specs.Logs.{Change};
+ghost use Rattle.book.specs.Places.{base_at};
+ghost use Rattle.base.specs.Shards.{IsAt, HasKey, HasRoom};
+ghost use Rattle.domain.specs.Bases.{Declines, Domain, IsAnswer, Stops, Takes, refusal_at};
+ghost use Rattle.domain.specs.Messages.{IsDecision};
+
+use crate::message::{Declined, Reply, Write};
+use base::shard::BaseShard;
+use book::entry::Entry;
+use book::front::Front;
+use book::law::Naming;
+use book::part::Part;
+use book::places::base_at;
+use book::shared::SharedBook;
+use plan::plan::Plan;
+use row::refused::Refused;
+use std::alloc::{AllocError, Global};
+use std::marker::Model;
+
+/// The most entries of a log.
+const LIMIT: u64 = 4294967295;
+
+/// One base shard with the front of its log, at which its rows stand, and for each session the
+/// least number that its next write may have.
+#[derive(Drop)]
+pub struct BaseDomain<J: Naming> {
+    shard: BaseShard,
+    front: Front<J>,
+    next: Vec<u64>,
+    stopped: bool,
+}
+
+impl<J: Naming> Model for BaseDomain<J> {
+    ghost use Rattle.domain.specs.Bases.{Domain, IsDomain};
+
+    ghost Value = { Domain };
+
+    ghost view = { λ d. record { front = d.front; next = d.next.items; stopped = d.stopped } };
+
+    ghost invariant = { λ d. IsDomain J.plan d.shard d.front d.next.items };
+}
+
+impl<J: Naming> BaseDomain<J> {
+    /// A domain of a base shard whose log is empty, for so many sessions. Refused for want of
+    /// memory alone.
+    pub fn new(
+        alloc: Global,
+        plan: &Plan,
+        table: usize,
+        shard: usize,
+        sessions: usize,
+        part: &Part<J>,
+    ) -> Result<BaseDomain<J>, AllocError>
+        requires plan { plan.now ≡ J.plan }
+        requires table { table < length plan.now.tables }
+        requires shard { shard < (table_at plan.now table).shards }
+        ensures base { IfOk result (λ d. d.front.base ≡ base_at plan.now table shard) }
+        ensures len { IfOk result (λ d. d.front.len ≡ 0) }
+        ensures next { IfOk result (λ d. d.next ≡ replicate sessions 0) }
+        ensures running { IfOk result (λ d. d.stopped ≡ false) }
+    {
+        let front = part.front(base_at(plan, table, shard));
+        let next = vec![in alloc; 0u64; sessions]?;
+        Ok(BaseDomain {
+            shard: BaseShard::new(alloc, plan.table(table).key(), LIMIT),
+            front,
+            next,
+            stopped: false,
+        })
+    }
+
+    /// The number of its base shard.
+    pub fn base(&self) -> usize
+        ensures { result ≡ self.now.front.base }
+    {
+        self.front.base()
+    }
+
+    /// A copy of its front.
+    pub fn front(&self) -> Front<J>
+        ensures { result ≡ self.now.front }
+    {
+        self.front.again()
+    }
+
+    /// Whether it has stopped.
+    pub fn is_stopped(&self) -> bool
+        ensures { result ≡ self.now.stopped }
+    {
+        self.stopped
+    }
+
+    /// Stops: from then on it answers `Stopped` to every write and fence, and nothing changes.
+    pub fn stop(&mut self)
+        ensures { self.new ≡ record { front = self.old.front; next = self.old.next; stopped = true } }
+    {
+        let _front = &self.front;
+        self.stopped = true;
+    }
+
+    /// Takes a write, and gives the reply; none where the write's number is not above all of its
+    /// session in the log, and then nothing changes.
+    ///
+    /// Accepted, the entry was appended by one step, after all that was seen. Else the reply is
+    /// `Duplicate`, `Absent` or `LogFull` exactly where the log refuses the entry, `NoMemory`, or
+    /// `Stopped` where the domain had stopped or the log has moved; where it has moved the domain
+    /// stops. What is not accepted leaves the rest as it was. Cost: one look-up by the key, one
+    /// copy of the entry.
+    pub fn receive(
+        &mut self,
+        alloc: Global,
+        book: &SharedBook<J>,
+        write: Write<J>,
+    ) -> Option<Reply<J>>
+        requires base { write.base ≡ self.old.front.base }
+        ensures ignored { IfNone result (self.new ≡ self.old) }
+        ensures late { IfNone result ((length self.old.next ≤ write.session) ⊎ (write.number < slice_index_or self.old.next write.session 0)) }
+        ensures accepted { IfSome result (λ r. IfOk r (λ w. Takes J.plan self.old write w self.new)) }
+        ensures declined { IfSome result (λ r. IfErr r (λ d. Declines J.plan self.old write d self.new)) }
+    {
+        if self.stopped {
+            return Some(Err(self.decline(write, Refused::Stopped)));
+        }
+        if !self.rises(write.session, write.number) {
+            return None;
+        }
+        match self.shard.check(&write.entry) {
+            Err(refused) => Some(Err(self.refuse(book, write, refused))),
+            Ok(()) => Some(self.accept(alloc, book, write)),
+        }
+    }
+
+    // Whether the number may be the session's next.
+    fn rises(&self, session: usize, number: u64) -> bool
+        ensures yes { IsTrue result → (session < length self.now.next) × (slice_index_or self.now.next session 0 ≤ number) }
+        ensures no { IsFalse result → (length self.now.next ≤ session) ⊎ (number < slice_index_or self.now.next session 0) }
+    {
+        match self.next.get(session) {
+            Some(next) => *next <= number,
+            None => false,
+        }
+    }
+
+    // An answer that no log decides.
+    fn decline(&self, write: Write<J>, refused: Refused) -> Declined<J>
+        requires { IsDecision refused → ⊥ }
+        ensures answer { IsAnswer write result }
+        ensures refused { result.refused ≡ refused }
+        ensures front { result.front ≡ self.now.front }
+    {
+        let Write {
+            session,
+            number,
+            entry,
+            ..
+        } = write;
+        Declined {
+            session,
+            number,
+            entry,
+            refused,
+            front: self.front.again(),
+        }
+    }
+
+    // Answers a write that the log refuses, after a look at it.
+    fn refuse(&mut self, book: &SharedBook<J>, write: Write<J>, refused: Refused) -> Declined<J>
+        requires base { write.base ≡ self.old.front.base }
+        requires why { refusal_at J.plan self.old.front write.entry ≡ Some refused }
+        requires rises { slice_index_or self.old.next write.session 0 ≤ write.number }
+        ensures answer { IsAnswer write result }
+        ensures outcome { ((result.refused ≡ refused) × (self.new ≡ self.old)) ⊎ Stops self.old result self.new }
+    {
+        let mut front = self.front.again();
+        let refused = if front.look(book) == front.len() {
+            refused
+        } else {
+            self.stopped = true;
+            Refused::Stopped
+        };
+        let Write {
+            session,
+            number,
+            entry,
+            ..
+        } = write;
+        Declined {
+            session,
+            number,
+            entry,
+            refused,
+            front,
+        }
+    }
+
+    // Appends the entry of a write that the log allows, all room made before.
+    fn accept(&mut self, alloc: Global, book: &SharedBook<J>, write: Write<J>) -> Reply<J>
+        requires base { write.base ≡ self.old.front.base }
+        requires free { refusal_at J.plan self.old.front write.entry ≡ None }
+        requires place { write.session < length self.old.next }
+        requires rises { slice_index_or self.old.next write.session 0 ≤ write.number }
+        requires running { self.old.stopped ≡ false }
+        ensures accepted { IfOk result (λ w. Takes J.plan self.old write w self.new) }
+        ensures answer { IfErr result (λ d. IsAnswer write d) }
+        ensures declined { IfErr result (λ d. ((d.refused ≡ Refused.NoMemory) × (self.new ≡ self.old)) ⊎ Stops self.old d self.new) }
+    {
+        let Ok(kept) = room_for(alloc, &mut self.shard, &write.entry) else {
+            return Err(self.decline(write, Refused::NoMemory));
+        };
+        let Write {
+            session,
+            number,
+            entry,
+            ..
+        } = write;
+        let mut front = self.front.again();
+        match front.write(book, session as u64, number, entry) {
+            Ok(written) => {
+                self.front = front;
+                self.next[session] = number + 1;
+                self.shard.commit(kept);
+                Ok(written)
+            }
+            Err(entry) => {
+                self.stopped = true;
+                Err(Declined {
+                    session,
+                    number,
+                    entry,
+                    refused: Refused::Stopped,
+                    front,
+                })
+            }
+        }
+    }
+}
+
+// A copy of the entry, for which the shard then has room.
+fn room_for(alloc: Global, shard: &mut BaseShard, entry: &Entry) -> Result<Entry, AllocError>
+    requires key { HasKey shard.old.key (change_of entry.now) }
+    ensures kept { IfOk result (λ e. change_of e ≡ change_of entry.now) }
+    ensures room { OnOk result (HasRoom shard.new (change_of entry.now)) }
+    ensures rows { shard.new.rows ≡ shard.old.rows }
+    ensures length { shard.new.length ≡ shard.old.length }
+    ensures key { shard.new.key ≡ shard.old.key }
+    ensures limit { shard.new.limit ≡ shard.old.limit }
+    ensures front { (front : List Change) → IsAt shard.old front → IsAt shard.new front }
+{
+    let kept = entry.copied(alloc)?;
+    match shard.reserve(alloc, entry) {
+        Ok(()) => Ok(kept),
+        Err(_) => Err(AllocError),
+    }
+}

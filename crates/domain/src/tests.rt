@@ -1,0 +1,1 @@
+//! A base domain, called with messages of one session.
