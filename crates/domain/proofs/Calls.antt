@@ -18,7 +18,7 @@ use Rattle.book.specs.Fronts.{FrontView, entries, authors, IsAppended}
 use Rattle.book.proofs.Fronts.{length_authors}
 use Rattle.base.specs.Shards.{Shard, IsAt, verdict}
 use Rattle.base.proofs.Fronts as stands
-use Rattle.domain.specs.Messages.{WriteView, DeclinedView, IsDecision, IsDecided}
+use Rattle.domain.specs.Messages.{WriteView, DeclinedView, IsDecided}
 use Rattle.domain.specs.Bases.{Domain, IsBelow, IsDomain, IsAnswer, Rests, Stops, Declines, refusal_at}
 
 -- ---- numbers
@@ -116,12 +116,6 @@ domain_next p sh new f g next s m e d a at key room within low = record {
     length_push : {X : Type 0} (xs : List X) (x : X) → length (xs ++ x ∷ []) ≡ length xs + 1
     length_push [] x = refl
     length_push (y ∷ xs) x = let rest = length_push xs x in omega (arith, rest)
-
--- a stop is no decision of a log
-pub no_decision : IsDecision Stopped → ⊥
-no_decision (inl e) = absurd (cc e)
-no_decision (inr (inl e)) = absurd (cc e)
-no_decision (inr (inr e)) = absurd (cc e)
 
 -- shards of one content refuse the same
 pub same_refusal : (a b : Shard) (e f : Change) → a.key ≡ b.key → a.limit ≡ b.limit → a.rows ≡ b.rows → a.length ≡ b.length → e ≡ f → refusal_over a.key a.limit a.rows a.length e ≡ refusal_over b.key b.limit b.rows b.length f

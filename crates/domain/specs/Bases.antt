@@ -12,7 +12,7 @@ use Rattle.book.specs.Fronts.{FrontView, entries, authors, IsAppended, IsMoved}
 use Rattle.book.specs.Refusals.{refusal}
 use Rattle.book.specs.Replies.{WrittenView}
 use Rattle.base.specs.Shards.{Shard, IsAt}
-use Rattle.domain.specs.Messages.{WriteView, DeclinedView, IsDecision}
+use Rattle.domain.specs.Messages.{WriteView, DeclinedView}
 
 -- its front, for each session the least number that its next write may have, and whether it has stopped
 pub record Domain : Type 0 where

@@ -3,7 +3,7 @@ use Rattle.std.specs.Prelude.{◌≡◌, ◌⊎◌, ℕ, ◌<◌, true, Some}
 use Rattle.row.specs.Bags.{Each}
 use Rattle.row.specs.Cells.{shard}
 use Rattle.row.specs.declared.refused.Refused.{Refused}
-use Rattle.row.specs.declared.refused.Refused.TheVariants.{Duplicate, Absent, LogFull}
+use Rattle.row.specs.declared.refused.Refused.TheVariants.{NoMemory, Stopped}
 use Rattle.plan.specs.Layouts.{Layout}
 use Rattle.book.specs.Logs.{Change, fits, key_of}
 use Rattle.book.specs.Places.{base_count, layout_of, shard_of}
@@ -33,10 +33,6 @@ pub record IsWrite (p : Layout) (w : WriteView) : Type 0 where
   pub key : HasKey (layout_of p w.base).key w.entry
   pub number : w.number < last_number
 
--- the refusals that a base shard's log decides
-abbrev pub IsDecision : Refused → Type 0
-IsDecision r = (r ≡ Duplicate) ⊎ (r ≡ Absent) ⊎ (r ≡ LogFull)
-
 -- what a base shard declined, why, and the front that it then had
 pub record DeclinedView : Type 0 where
   pub session : ℕ
@@ -50,3 +46,7 @@ pub record IsDecided (p : Layout) (d : DeclinedView) : Type 0 where
   pub whole : IsWhole d.front
   pub why : refusal (layout_of p d.front.base).key limit (log_of d.front.base d.front.seen) d.entry ≡ Some d.refused
   pub absent : Each (λ (a : Author). a.session ≡ d.session → a.number < d.number) (authors_of d.front.base d.front.seen)
+
+-- the log decided, or nothing was decided
+abbrev pub IsAnswered : Layout → DeclinedView → Type 0
+IsAnswered p d = (d.refused ≡ NoMemory) ⊎ (d.refused ≡ Stopped) ⊎ IsDecided p d

@@ -6,7 +6,6 @@ ghost use Rattle.book.specs.Logs.{Change};
 ghost use Rattle.book.specs.Places.{base_at};
 ghost use Rattle.base.specs.Shards.{IsAt, HasKey, HasRoom};
 ghost use Rattle.domain.specs.Bases.{Declines, Domain, IsAnswer, Stops, Takes, refusal_at};
-ghost use Rattle.domain.specs.Messages.{IsDecision};
 
 use crate::message::{Declined, Reply, Write};
 use base::shard::BaseShard;
@@ -147,7 +146,7 @@ impl<J: Naming> BaseDomain<J> {
 
     // An answer that no log decides.
     fn decline(&self, write: Write<J>, refused: Refused) -> Declined<J>
-        requires { IsDecision refused → ⊥ }
+        requires { (refused ≡ Refused.NoMemory) ⊎ (refused ≡ Refused.Stopped) }
         ensures answer { IsAnswer write result }
         ensures refused { result.refused ≡ refused }
         ensures front { result.front ≡ self.now.front }

@@ -5,7 +5,7 @@ ghost use Rattle.book.specs.Entries.{change_of};
 ghost use Rattle.book.specs.Logs.{fits, key_of};
 ghost use Rattle.book.specs.Places.{base_count, layout_of, shard_of};
 ghost use Rattle.base.specs.Shards.{HasKey};
-ghost use Rattle.domain.specs.Messages.{IsDecided, IsDecision, last_number};
+ghost use Rattle.domain.specs.Messages.{IsAnswered, last_number};
 
 use book::entry::Entry;
 use book::front::Front;
@@ -47,13 +47,13 @@ pub struct Declined<J: Naming> {
 
 impl<J: Naming> Model for Declined<J> {
     ghost use Rattle.book.specs.Entries.{change_of};
-    ghost use Rattle.domain.specs.Messages.{DeclinedView, IsDecision, IsDecided};
+    ghost use Rattle.domain.specs.Messages.{DeclinedView, IsAnswered};
 
     ghost Value = { DeclinedView };
 
     ghost view = { λ d. record { session = d.session; number = d.number; entry = change_of d.entry; refused = d.refused; front = d.front } };
 
-    ghost invariant = { λ d. IsDecision d.refused → IsDecided J.plan (record { session = d.session; number = d.number; entry = change_of d.entry; refused = d.refused; front = d.front }) };
+    ghost invariant = { λ d. IsAnswered J.plan (record { session = d.session; number = d.number; entry = change_of d.entry; refused = d.refused; front = d.front }) };
 }
 
 /// What a base shard answers to a write.
@@ -114,7 +114,7 @@ impl<J: Naming> Declined<J> {
     /// The front that decided.
     pub fn into_front(self) -> Front<J>
         ensures front { result ≡ self.front }
-        ensures decided { IsDecision self.refused → IsDecided J.plan self }
+        ensures answered { IsAnswered J.plan self }
     {
         self.front
     }

@@ -1,20 +1,20 @@
-use Rattle.std.proofs.Common.{◌≡◌, ap, sym, ◌∙◌, Some}
+use Rattle.std.proofs.Common.{◌≡◌, ap, sym, ◌∙◌, inl, inr}
 use Rattle.row.specs.declared.refused.Refused.{Refused}
 use Rattle.book.specs.Entries.{change_of}
 use Rattle.book.specs.Fronts.{FrontView, entries, authors}
-use Rattle.domain.specs.Messages.{IsDecided, IsDecision, DeclinedView}
-use Rattle.domain.proofs.Calls.{decided, no_decision}
+use Rattle.domain.specs.Messages.{IsDecided, DeclinedView}
+use Rattle.domain.proofs.Calls.{decided}
 use Rattle.domain.proofs.base_domain.BaseDomain.refuse.Goals as goal
 use Rattle.domain.proofs.base_domain.BaseDomain.refuse.Goals.{then-look-len, else-look-len}
 
 pub invariant_of-result : goal.invariant_of-result
-invariant_of-result g c decision =
+invariant_of-result g c =
     let l = c.look.ensures in
     let again = c.again-front.ensures in
     let why = rw (← c.self.view_is, ← c.write.view_is) at c.requires.why in
     let rises = rw (← c.self.view_is, ← c.write.view_is) at c.requires.rises in
     elim c.if-look-len.branch [
-      then-look-len w ↦ rw (w.refused-is) (decided g.J.Naming.plan c.self.inside.front c.look.new.self c.self.inside.next.items c.write.inside.session c.write.inside.number (change_of c.write.inside.entry) c.args.refused
-          (l.base ∙ ap (λ (f : FrontView). f.base) again) (l.entries ∙ ap entries again) (l.authors ∙ ap authors again) (sym c.len.ensures.len ∙ (sym w.if-look-len.true ∙ l.found)) c.self.invariant.numbers rises why)
-    | else-look-len w ↦ absurd (no_decision (rw w.refused-is at decision))
+      | then-look-len w ↦ rw (w.refused-is) (inr (inr (decided g.J.Naming.plan c.self.inside.front c.look.new.self c.self.inside.next.items c.write.inside.session c.write.inside.number (change_of c.write.inside.entry) c.args.refused
+          (l.base ∙ ap (λ (f : FrontView). f.base) again) (l.entries ∙ ap entries again) (l.authors ∙ ap authors again) (sym c.len.ensures.len ∙ (sym w.if-look-len.true ∙ l.found)) c.self.invariant.numbers rises why)))
+      | else-look-len w ↦ inr (inl w.refused-is)
     ]
