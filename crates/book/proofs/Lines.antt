@@ -74,7 +74,7 @@ even_within p h fs is each =
 pub line_next : (fs : List FrontView) (i : ℕ) (f : FrontView) (line : List ℕ) → i < length fs → f ≡ get_or fs i f → line ≡ map (λ (x : FrontView). x.len) (take i fs) → line ++ f.len ∷ [] ≡ map (λ (x : FrontView). x.len) (take (i + 1) fs)
 line_next fs i f line small is e = rw (take_more fs i f small, ← is, map-append (λ (x : FrontView). x.len) (take i fs) (f ∷ []), e) refl
 
-each_push : {X : Type 0} (P : X → Type 0) (xs : List X) (y : X) → Each P xs → P y → Each P (xs ++ y ∷ [])
+pub each_push : {X : Type 0} (P : X → Type 0) (xs : List X) (y : X) → Each P xs → P y → Each P (xs ++ y ∷ [])
 each_push P [] y h q = (q, tt)
 each_push P (x ∷ xs) y h q = (h.0, each_push P xs y h.1 q)
 

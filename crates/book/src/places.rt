@@ -1,5 +1,6 @@
 //! Numbers of base shards.
 ghost use Rattle.std.specs.Prelude.{◌≡◌, ◌≤◌, ◌<◌, ◌++◌, length, IfOk, OnOk};
+ghost use Rattle.row.specs.Bags.{Each};
 ghost use Rattle.plan.specs.Layouts.{table_at};
 ghost use Rattle.book.specs.Places.{base_at, base_count, layout_of, shard_of, side_bases, sources};
 
@@ -39,7 +40,8 @@ pub fn base_at(plan: &Plan, table: usize, shard: usize) -> usize
 /// The base shards that are sources of the stage: the shards of the left table in order, then
 /// those of the right one. Refused for want of memory alone.
 pub fn sources(alloc: Global, plan: &Plan) -> Result<Vec<usize>, AllocError>
-    ensures { IfOk result (λ v. v.items ≡ sources plan.now) }
+    ensures sources { IfOk result (λ v. v.items ≡ sources plan.now) }
+    ensures range { IfOk result (λ v. Each (λ b. b < base_count plan.now) v.items) }
 {
     plan.keeps_profile();
     let mut bases = Vec::new(alloc);
@@ -53,7 +55,9 @@ pub fn sources(alloc: Global, plan: &Plan) -> Result<Vec<usize>, AllocError>
 // Adds the shards of the side's table, in order.
 fn push_bases(plan: &Plan, side: &Side, bases: &mut Vec<usize>) -> Result<(), AllocError>
     requires table { side.now.table < length plan.now.tables }
-    ensures { OnOk result (bases.new.items ≡ bases.old.items ++ side_bases plan.now side.now) }
+    requires range { Each (λ b. b < base_count plan.now) bases.old.items }
+    ensures bases { OnOk result (bases.new.items ≡ bases.old.items ++ side_bases plan.now side.now) }
+    ensures range { OnOk result (Each (λ b. b < base_count plan.now) bases.new.items) }
 {
     for shard in 0..plan.table(side.table()).shards() {
         bases.push(base_at(plan, side.table(), shard))?;

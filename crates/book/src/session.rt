@@ -126,6 +126,13 @@ impl<J: Naming> SessionWord<J> {
         learn::<J>(&mut self.seen, &part.whole());
     }
 
+    /// The number of the session.
+    pub fn number(&self) -> usize
+        ensures session { result ≡ self.now.session }
+    {
+        self.number
+    }
+
     /// How often it has answered.
     pub fn answered(&self) -> u64
         ensures answered { result ≡ self.now.answered }

@@ -1,0 +1,10 @@
+use Rattle.std.proofs.Common.{subst, sym}
+use Rattle.system.specs.Callers.{Caller}
+use Rattle.system.proofs.Callers.{caller_later}
+use Rattle.system.proofs.session.Session.meet.Goals as goal
+
+pub invariant_of-self : goal.invariant_of-self
+invariant_of-self g c = caller_later g.J.Naming.plan _ _ _ c.meet.new.self c.self.invariant c.meet.ensures.this
+
+pub invariant_of-other : goal.invariant_of-other
+invariant_of-other g c = caller_later g.J.Naming.plan _ _ _ c.meet.new.other c.other.invariant c.meet.ensures.that

@@ -1,0 +1,35 @@
+-- Sessions, as their callers see them.
+use Rattle.std.specs.Prelude.{◌≡◌, ◌⊎◌, ℕ, Bool, List, [], length, map, replicate, slice_get, slice_index_or, Option, Some, None}
+use Rattle.row.specs.declared.refused.Refused.{Refused}
+use Rattle.plan.specs.Layouts.{Layout}
+use Rattle.book.specs.Places.{base_count, sources}
+use Rattle.book.specs.Histories.{Item, Lengths, Floors, floor_at, log_of, authors_of}
+use Rattle.book.specs.Cuts.{IsAtMost}
+
+-- who it is, the number of its next call, whether its word was moved by another, what it has seen, the greatest index accepted in each base shard, and its floors
+pub record Caller : Type 0 where
+  pub session : ℕ
+  pub number : ℕ
+  pub stolen : Bool
+  pub seen : List Item
+  pub accepted : List (Option ℕ)
+  pub floors : Floors
+
+-- the entry at that place of the history is the session's
+pub record IsWrote (h : List Item) (s b k : ℕ) : Type 0 where
+  pub number : ℕ
+  pub author : slice_get (authors_of b h) k ≡ Some (record { session = s; number = number })
+
+-- the greatest index accepted in base shard b
+abbrev pub accepted_at : List (Option ℕ) → ℕ → Option ℕ
+accepted_at accepted b = slice_index_or accepted b None
+
+-- the cut of all that the history has
+abbrev pub whole_cut : Layout → List Item → Lengths
+whole_cut p h = replicate p.stages (map (λ b. length (log_of b h)) (sources p))
+
+-- what was accepted stands in what was seen, and no floor is above that
+pub record IsCaller (p : Layout) (c : Caller) : Type 0 where
+  pub width : length c.accepted ≡ base_count p
+  pub own : (b k : ℕ) → accepted_at c.accepted b ≡ Some k → IsWrote c.seen c.session b k
+  pub floors : (v j : ℕ) → IsAtMost (floor_at c.floors v j) (whole_cut p c.seen)

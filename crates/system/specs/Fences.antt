@@ -1,0 +1,39 @@
+-- What a fence does to its session.
+use Rattle.std.specs.Prelude.{◌≡◌, ◌⊎◌, ℕ, ◌+◌, ◌<◌, ◌≤◌, true, false, List, [], ◌∷◌, flat_map, length, Option, Some, None}
+use mathlib.Core.List.{IsPrefix}
+use Rattle.row.specs.declared.refused.Refused.{Refused}
+use Rattle.row.specs.declared.refused.Refused.TheVariants.{NoMemory, Stopped, Behind, Stolen}
+use Rattle.plan.specs.Layouts.{Layout}
+use Rattle.book.specs.Places.{sources, source_at}
+use Rattle.book.specs.Histories.{Item, fence, Place, len_at, floor_at, log_of}
+use Rattle.book.specs.Legal.{EachShard}
+use Rattle.book.specs.Pages.{IsAdded}
+use Rattle.book.specs.Sessions.{own_word}
+use Rattle.system.specs.Callers.{Caller, accepted_at}
+
+-- the place of an index, where there is one
+abbrev pub place_of : ℕ → Option ℕ → List Place
+place_of b None = []
+place_of b (Some k) = record { base = b; index = k } ∷ []
+
+-- the greatest accepted index of each source
+abbrev pub own_places : Layout → List (Option ℕ) → List Place
+own_places p accepted = flat_map (λ b. place_of b (accepted_at accepted b)) (sources p)
+
+-- each floor has every entry of a source that the history has
+abbrev pub IsFloored : Layout → List Item → Caller → Type 0
+IsFloored p h c = EachShard p (λ v j. (s i : ℕ) → s < p.stages → i < length (sources p) → length (log_of (source_at p i) h) ≤ len_at (floor_at c.floors v j) s i)
+
+-- a fence item stands at the end of what was then seen, with the greatest accepted index of each source, and each floor has all that its session had seen
+pub record IsFenced (p : Layout) (old new : Caller) : Type 0 where
+  pub before : List Item
+  pub grown : IsPrefix old.seen before
+  pub item : IsAdded p (own_word p old.session) before (fence old.session (own_places p old.accepted) new.floors) new.seen
+  pub floored : IsFloored p old.seen new
+  pub after : new ≡ record { session = old.session; number = old.number + 1; stolen = old.stolen; seen = new.seen; accepted = old.accepted; floors = new.floors }
+
+-- a refused fence leaves the floors and what was accepted, and all that was seen, but where the word was moved by another
+pub record IsUnfenced (old new : Caller) (r : Refused) : Type 0 where
+  pub after : new ≡ record { session = old.session; number = new.number; stolen = new.stolen; seen = new.seen; accepted = old.accepted; floors = old.floors }
+  pub grown : IsPrefix old.seen new.seen
+  pub why : ((r ≡ NoMemory) ⊎ (r ≡ Stopped) ⊎ (r ≡ Behind)) × (new.seen ≡ old.seen) × (new.stolen ≡ old.stolen) ⊎ (r ≡ Stolen) × (new.stolen ≡ true)

@@ -1,0 +1,71 @@
+-- What a write does to its session, and when it is refused.
+use Rattle.std.specs.Prelude.{◌≡◌, ◌⊎◌, ℕ, ◌+◌, ◌<◌, nat_le, Bool, ◌||◌, cond, true, List, Option, Some, None, slice_set}
+use mathlib.Core.List.{IsPrefix}
+use Rattle.row.specs.Bags.{Each}
+use Rattle.row.specs.Cells.{shard}
+use Rattle.row.specs.declared.refused.Refused.{Refused}
+use Rattle.row.specs.declared.refused.Refused.TheVariants.{NoMemory, Stopped, Stolen}
+use Rattle.plan.specs.Layouts.{Layout, table_at, table_named}
+use Rattle.book.specs.Logs.{Change, key_of}
+use Rattle.book.specs.Places.{base_at, layout_of}
+use Rattle.book.specs.Histories.{Item, write, Author, log_of, authors_of}
+use Rattle.book.specs.Refusals.{refusal, write_refusal}
+use Rattle.book.specs.Legal.{limit}
+use Rattle.book.specs.Replies.{IsAfter}
+use Rattle.domain.specs.Messages.{last_number}
+use Rattle.system.specs.Callers.{Caller, accepted_at}
+use Rattle.system.specs.declared.session.Accepted.{Accepted}
+
+-- the base shard of the table in which the entry stands
+abbrev pub base_of : Layout → ℕ → Change → ℕ
+base_of p t e = base_at p t (shard (key_of (table_at p t).key e) (table_at p t).shards)
+
+-- the first of the two refusals that is there
+abbrev pub first_of : Option Refused → Option Refused → Option Refused
+first_of None o = o
+first_of (Some r) o = Some r
+
+-- Stolen where the session's word was moved by another, or its call numbers are spent
+abbrev pub stolen_refusal : Caller → Option Refused
+stolen_refusal c = cond (c.stolen || nat_le last_number c.number) (Some Stolen) None
+
+-- what a write to the named table is refused with for what it asks
+abbrev pub call_refusal : Layout → Caller → List ℕ → Change → Option Refused
+call_refusal p c name e = first_of (stolen_refusal c) (write_refusal p (table_named p name) e)
+
+-- an accepted write: its item stands at the named index, in what was then seen, after all that its session had seen
+pub record IsTaken (old new : Caller) (b : ℕ) (e : Change) (k : ℕ) : Type 0 where
+  pub item : IsAfter old.seen (write old.session old.number b e) b k new.seen
+  pub greatest : (i : ℕ) → accepted_at old.accepted b ≡ Some i → i < k
+  pub after : new ≡ record { session = old.session; number = old.number + 1; stolen = old.stolen; seen = new.seen; accepted = slice_set old.accepted b (Some k); floors = old.floors }
+
+-- the same, of the table that was named
+pub record Accepts (p : Layout) (old new : Caller) (name : List ℕ) (e : Change) (a : Accepted) : Type 0 where
+  pub table : table_named p name ≡ Some a.table
+  pub shard : a.shard ≡ shard (key_of (table_at p a.table).key e) (table_at p a.table).shards
+  pub taken : IsTaken old new (base_of p a.table e) e a.index
+
+-- the log in what was then seen decides so, and it has no item of the call
+pub record IsDecidedIn (p : Layout) (seen : List Item) (s m b : ℕ) (e : Change) (r : Refused) (now : List Item) : Type 0 where
+  pub grown : IsPrefix seen now
+  pub why : refusal (layout_of p b).key limit (log_of b now) e ≡ Some r
+  pub absent : Each (λ (a : Author). a.session ≡ s → a.number < m) (authors_of b now)
+
+-- nothing was decided, and nothing more was seen; or the log decided
+abbrev pub IsAnswer : Layout → List Item → ℕ → ℕ → ℕ → Change → Refused → List Item → Type 0
+IsAnswer p seen s m b e r now = ((r ≡ NoMemory) ⊎ (r ≡ Stopped)) × (now ≡ seen) ⊎ IsDecidedIn p seen s m b e r now
+
+-- a write that is not accepted leaves the floors and what was accepted; and all that was seen, but where the log decides
+pub record IsRefused (old new : Caller) : Type 0 where
+  pub after : new ≡ record { session = old.session; number = new.number; stolen = old.stolen; seen = new.seen; accepted = old.accepted; floors = old.floors }
+  pub number : (new.number ≡ old.number) ⊎ (new.number ≡ old.number + 1)
+
+-- it was refused for a reason of the store, or the log decided
+pub record IsUntaken (p : Layout) (old new : Caller) (b : ℕ) (e : Change) (r : Refused) : Type 0 where
+  pub rest : IsRefused old new
+  pub why : IsAnswer p old.seen old.session old.number b e r new.seen
+
+-- the same, of the table that was named, or the call was refused for what it asks and nothing changed
+pub data Declines (p : Layout) (old new : Caller) (name : List ℕ) (e : Change) (r : Refused) : Type 0 where
+  asked : call_refusal p old name e ≡ Some r → new ≡ old → Declines p old new name e r
+  untaken : call_refusal p old name e ≡ None → (t : ℕ) → table_named p name ≡ Some t → IsUntaken p old new (base_of p t e) e r → Declines p old new name e r

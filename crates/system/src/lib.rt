@@ -1,0 +1,11 @@
+//! The running store: a thread for each base shard, and sessions that its callers hold.
+#![tactic(auto)]
+
+mod call;
+mod queue;
+pub mod session;
+mod shared;
+pub mod system;
+#[cfg(test)]
+mod tests;
+mod worker;

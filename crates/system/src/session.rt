@@ -1,0 +1,247 @@
+//! A caller's end of the store.
+ghost use Rattle.std.specs.Prelude.{◌≡◌, ◌⊎◌, ◌+◌, ◌<◌, ◌≤◌, ℕ, true, length, replicate, slice_get, slice_set, IfOk, OnOk, IfErr, IfSome, IfNone, IsTrue, IsFalse, Some, None, []};
+ghost use mathlib.Core.List.{IsPrefix};
+ghost use Rattle.row.specs.Cells.{shard};
+ghost use Rattle.plan.specs.Kinds.{is_row};
+ghost use Rattle.plan.specs.Layouts.{table_at, table_named};
+ghost use Rattle.book.specs.Entries.{change_of};
+ghost use Rattle.book.specs.Histories.{floor_at, write};
+ghost use Rattle.book.specs.Legal.{IsLegal};
+ghost use Rattle.book.specs.Logs.{fits, inserts, key_of};
+ghost use Rattle.book.specs.Places.{base_at, base_count, layout_of, shard_of};
+ghost use Rattle.book.specs.Refusals.{write_refusal};
+ghost use Rattle.book.specs.Replies.{IsAfter, IsWhole};
+ghost use Rattle.base.specs.Shards.{HasKey};
+ghost use Rattle.domain.specs.Messages.{IsDecided, last_number};
+
+use crate::call::{Call, Told};
+use crate::shared::{Shared, ToBase};
+use book::entry::Entry;
+use book::front::Front;
+use book::law::Naming;
+use book::part::Part;
+use book::places::base_at;
+use book::session::SessionWord;
+use domain::message::Write;
+use plan::plan::Plan;
+use row::refused::Refused;
+use row::row::Row;
+use row::value::shard_of;
+use std::alloc::{AllocError, Global};
+use std::marker::Model;
+use std::sync::{Arc, Wait};
+
+/// Where an accepted write stands: its table's place in the plan, the shard of the table, and the
+/// index in that shard's log.
+#[derive(Clone, Copy, PartialEq, Eq, Debug)]
+pub struct Accepted {
+    pub table: usize,
+    pub shard: usize,
+    pub index: u64,
+}
+
+/// One caller's end of the store. It can move to another thread.
+#[derive(Drop)]
+pub struct Session<J: Naming> {
+    word: SessionWord<J>,
+    number: u64,
+    stolen: bool,
+    seen: Part<J>,
+    accepted: Vec<Option<u64>>,
+    shared: Arc<Shared<J>>,
+}
+
+impl<J: Naming> Model for Session<J> {
+    ghost use Rattle.system.specs.Callers.{Caller, IsCaller};
+
+    ghost Value = { Caller };
+
+    ghost view = { λ s. record { session = s.word.session; number = s.number; stolen = s.stolen; seen = s.seen; accepted = s.accepted.items; floors = s.word.floors } };
+
+    ghost invariant = { λ s. IsCaller J.plan (record { session = s.word.session; number = s.number; stolen = s.stolen; seen = s.seen; accepted = s.accepted.items; floors = s.word.floors }) };
+}
+
+impl<J: Naming> Session<J> {
+    ghost use Rattle.system.specs.Callers.{Caller};
+    ghost use Rattle.system.specs.Inserts.{Accepts, Declines, IsRefused, IsTaken, IsUntaken, stolen_refusal};
+
+    /// The session of this number, which has made no call.
+    pub(crate) fn new(
+        alloc: Global,
+        number: usize,
+        start: &Front<J>,
+        shared: Arc<Shared<J>>,
+    ) -> Result<Session<J>, AllocError>
+        requires number { number < J.sessions }
+        ensures session { IfOk result (λ s. s.session ≡ number) }
+        ensures number { IfOk result (λ s. s.number ≡ 0) }
+        ensures seen { IfOk result (λ s. s.seen ≡ start.now.seen) }
+        ensures accepted { IfOk result (λ s. s.accepted ≡ replicate (base_count J.plan) None) }
+        ensures floors { IfOk result (λ s. (v j : ℕ) → floor_at s.floors v j ≡ []) }
+    {
+        let word = SessionWord::first(alloc, shared.plan(), number, start)?;
+        let accepted = vec![in alloc; None; shared.book().bases()]?;
+        Ok(Session {
+            word,
+            number: 0,
+            stolen: false,
+            seen: start.part(),
+            accepted,
+            shared,
+        })
+    }
+
+    /// The plan.
+    pub fn plan(&self) -> &Plan
+        ensures { result.now ≡ J.plan }
+    {
+        self.shared.plan()
+    }
+
+    // Whether no call can be made any more.
+    fn is_spent(&self) -> bool
+        ensures spent { IsTrue result → stolen_refusal self.now ≡ Some Refused.Stolen }
+        ensures unspent { IsFalse result → (stolen_refusal self.now ≡ None) × (self.now.number < last_number) }
+    {
+        self.stolen || self.number == u64::MAX
+    }
+
+    /// Inserts a row into the table of this name, as one step: accepted, the row's entry stands
+    /// once, at the index that the answer names, after all that the session had seen. It waits for
+    /// the base shard's reply.
+    ///
+    /// Refused with, looked for in this order: `Stolen` where the session's call numbers are
+    /// spent or its word was moved by another, `UnknownTable`, `BadRow` where the row does not fit,
+    /// `Stopped` where the base shard or the system has stopped, `Duplicate` where its key is
+    /// there, `LogFull`; `NoMemory` at any place after `BadRow`. A refused call leaves the floors
+    /// and what was accepted; after `Duplicate` and `LogFull` the session has seen the log that
+    /// decided, else what it had. Cost: a look at each table's name, two copies of the row, and a
+    /// way through one queue and back.
+    pub fn insert<R: Wait>(
+        &mut self,
+        rt: &R,
+        alloc: Global,
+        table: &str,
+        row: Row,
+    ) -> Result<Accepted, Refused>
+        ensures legal { IsLegal J.plan J.sessions self.new.seen }
+        ensures accepted { IfOk result (λ a. Accepts J.plan self.old self.new table.now (inserts row) a) }
+        ensures refused { IfErr result (λ e. Declines J.plan self.old self.new table.now (inserts row) e) }
+    {
+        let answer = self.insert_row(rt, alloc, table, row);
+        self.seen.is_legal();
+        answer
+    }
+
+    fn insert_row<R: Wait>(
+        &mut self,
+        rt: &R,
+        alloc: Global,
+        table: &str,
+        row: Row,
+    ) -> Result<Accepted, Refused>
+        ensures accepted { IfOk result (λ a. Accepts J.plan self.old self.new table.now (inserts row) a) }
+        ensures refused { IfErr result (λ e. Declines J.plan self.old self.new table.now (inserts row) e) }
+    {
+        if self.is_spent() {
+            return Err(Refused::Stolen);
+        }
+        let table = fitting_table(self.plan(), table, &row)?;
+        let shard = shard_in(self.plan(), table, &row);
+        let base = base_at(self.plan(), table, shard);
+        match self.write(rt, alloc, base, Entry::Insert(row)) {
+            Ok(index) => Ok(Accepted {
+                table,
+                shard,
+                index,
+            }),
+            Err(refused) => Err(refused),
+        }
+    }
+
+    // Writes an entry that fits its table to its base shard, and gives the index.
+    fn write<R: Wait>(
+        &mut self,
+        rt: &R,
+        alloc: Global,
+        base: usize,
+        entry: Entry,
+    ) -> Result<u64, Refused>
+        requires base { base < base_count J.plan }
+        requires fits { fits (layout_of J.plan base) (change_of entry) ≡ true }
+        requires shard { shard_of J.plan base ≡ shard (key_of (layout_of J.plan base).key (change_of entry)) (layout_of J.plan base).shards }
+        requires key { HasKey (layout_of J.plan base).key (change_of entry) }
+        requires number { self.old.number < last_number }
+        ensures taken { IfOk result (λ k. IsTaken self.old self.new base (change_of entry) k) }
+        ensures untaken { IfErr result (λ e. IsUntaken J.plan self.old self.new base (change_of entry) e) }
+    {
+        let Ok(sent) = entry.copied(alloc) else {
+            return Err(Refused::NoMemory);
+        };
+        let mut front = self.seen.front(base);
+        front.catch_up(self.shared.book());
+        let call = Call {
+            session: self.word.number(),
+            number: self.number,
+            base,
+        };
+        let write = Write::new(base, call.session, call.number, sent);
+        if let Err(refused) = self.shared.send(rt, base, ToBase::Write(write)) {
+            return Err(refused);
+        }
+        let Told { answer, seen } = call.reply(rt, &self.shared, &entry, &self.seen, &front);
+        self.number += 1;
+        self.seen = seen;
+        match answer {
+            Ok(index) => {
+                self.accepted[base] = Some(index);
+                Ok(index)
+            }
+            Err(refused) => Err(refused),
+        }
+    }
+
+    /// Of what two sessions have seen one begins the other. Afterwards both have seen one part,
+    /// which is no less than either had. It waits for nobody, takes no memory and cannot fail.
+    pub fn meet(&mut self, other: &mut Session<J>)
+        ensures legal { IsLegal J.plan J.sessions self.new.seen }
+        ensures one { IsPrefix self.old.seen other.old.seen ⊎ IsPrefix other.old.seen self.old.seen }
+        ensures both { self.new.seen ≡ other.new.seen }
+        ensures this { IsPrefix self.old.seen self.new.seen }
+        ensures that { IsPrefix other.old.seen other.new.seen }
+        ensures rest { IsRefused self.old self.new × IsRefused other.old other.new }
+    {
+        self.seen.meet(&mut other.seen);
+        self.seen.is_legal();
+    }
+}
+
+// The place of the table of this name, where the row fits it.
+fn fitting_table(plan: &Plan, name: &str, row: &Row) -> Result<usize, Refused>
+    ensures there { IfOk result (λ t. t < length plan.now.tables) }
+    ensures named { IfOk result (λ t. table_named plan.now name.now ≡ Some t) }
+    ensures fits { IfOk result (λ t. is_row (table_at plan.now t).columns row.now ≡ true) }
+    ensures key { IfOk result (λ t. (table_at plan.now t).key < length row.now) }
+    ensures free { IfOk result (λ t. write_refusal plan.now (table_named plan.now name.now) (inserts row.now) ≡ None) }
+    ensures why { IfErr result (λ e. write_refusal plan.now (table_named plan.now name.now) (inserts row.now) ≡ Some e) }
+{
+    let Some(place) = plan.table_named(name) else {
+        return Err(Refused::UnknownTable);
+    };
+    if !plan.table(place).takes(row) {
+        return Err(Refused::BadRow);
+    }
+    Ok(place)
+}
+
+// The shard of the table in which the row stands.
+fn shard_in(plan: &Plan, table: usize, row: &Row) -> usize
+    requires table { table < length plan.now.tables }
+    requires key { (table_at plan.now table).key < length row.now }
+    ensures shard { result ≡ shard (key_of (table_at plan.now table).key (inserts row.now)) (table_at plan.now table).shards }
+    ensures range { result < (table_at plan.now table).shards }
+{
+    plan.keeps_profile();
+    let table = plan.table(table);
+    shard_of(row.cell(table.key()), table.shards())
+}

@@ -1,0 +1,171 @@
+//! What the threads of a system share.
+ghost use Rattle.std.specs.Prelude.{◌≡◌, ◌⊎◌, ◌<◌, IfErr};
+ghost use Rattle.book.specs.Places.{sources};
+
+use crate::queue::{Full, Mailbox, Queue};
+use book::front::Front;
+use book::law::Naming;
+use book::places;
+use book::shared::SharedBook;
+use domain::message::{Reply, Write};
+use plan::plan::Plan;
+use row::refused::Refused;
+use std::alloc::{AllocError, Global};
+use std::marker::Model;
+use std::sync::Wait;
+
+/// A fence on its way through the domains.
+#[derive(Clone, Copy)]
+pub struct Marker {
+    pub session: usize,
+    pub number: u64,
+}
+
+/// A message to a base shard.
+#[derive(Drop)]
+pub enum ToBase<J: Naming> {
+    Write(Write<J>),
+    Marker(Marker),
+}
+
+/// A base shard's answer to a marker: the front that it then had; none where it has stopped.
+#[derive(Drop)]
+pub struct Ack<J: Naming> {
+    pub marker: Marker,
+    pub front: Option<Front<J>>,
+}
+
+/// The plan, the book, and the ways between the threads: a queue to each base shard, for each
+/// session a mailbox for replies, and for each session and base shard one for acknowledgements.
+#[derive(Drop)]
+pub struct Shared<J: Naming> {
+    plan: Plan,
+    book: SharedBook<J>,
+    sources: Vec<usize>,
+    queues: Vec<Queue<ToBase<J>>>,
+    replies: Vec<Mailbox<Reply<J>>>,
+    acks: Vec<Mailbox<Ack<J>>>,
+}
+
+impl<J: Naming> Model for Shared<J> {
+    ghost use Rattle.std.specs.Prelude.{◌≡◌};
+    ghost use Rattle.plan.specs.Layouts.{Layout};
+    ghost use Rattle.book.specs.Places.{sources as sources_of};
+
+    ghost Value = { Layout };
+
+    ghost view = { λ s. s.plan };
+
+    ghost invariant = { λ s. (s.plan ≡ J.plan) × (s.sources.items ≡ sources_of J.plan) };
+}
+
+impl<J: Naming> Shared<J> {
+    /// The parts of a system of so many sessions, at most 16. Refused for want of memory alone.
+    pub fn new(
+        alloc: Global,
+        plan: Plan,
+        book: SharedBook<J>,
+        sessions: usize,
+    ) -> Result<Shared<J>, AllocError>
+        requires plan { plan ≡ J.plan }
+        requires few { sessions < 17 }
+    {
+        let sources = places::sources(alloc, &plan)?;
+        let bases = book.bases();
+        let mut queues = Vec::new(alloc);
+        for _base in 0..bases {
+            queues.push(Queue::new(alloc))?;
+        }
+        Ok(Shared {
+            plan,
+            book,
+            sources,
+            queues,
+            replies: mailboxes(alloc, sessions)?,
+            acks: mailboxes(alloc, sessions * bases)?,
+        })
+    }
+
+    /// The plan.
+    pub fn plan(&self) -> &Plan
+        ensures { result.now ≡ J.plan }
+    {
+        &self.plan
+    }
+
+    /// The base shards that are sources of the stage, in order.
+    pub fn sources(&self) -> &[usize]
+        ensures { result.now ≡ sources J.plan }
+    {
+        self.sources.as_slice()
+    }
+
+    /// The book.
+    pub fn book(&self) -> &SharedBook<J> {
+        &self.book
+    }
+
+    /// Sends a message to a base shard. Refused with `Stopped` where the system has stopped, or
+    /// `NoMemory`.
+    pub fn send<R: Wait>(&self, rt: &R, base: usize, message: ToBase<J>) -> Result<(), Refused>
+        ensures only { IfErr result (λ e. (e ≡ Refused.NoMemory) ⊎ (e ≡ Refused.Stopped)) }
+    {
+        let Some(queue) = self.queues.get(base) else {
+            return Err(Refused::Stopped);
+        };
+        match queue.put(rt, message) {
+            Ok(()) => Ok(()),
+            Err(Full::Closed) => Err(Refused::Stopped),
+            Err(Full::NoMemory) => Err(Refused::NoMemory),
+        }
+    }
+
+    /// The next message to a base shard; none once the system has stopped.
+    pub fn next<R: Wait>(&self, rt: &R, base: usize) -> Option<ToBase<J>> {
+        self.queues.get(base)?.take(rt)
+    }
+
+    /// Closes the queues: nothing more is taken, and what was sent is still answered.
+    pub fn close<R: Wait>(&self, rt: &R) {
+        for queue in &self.queues {
+            queue.close(rt);
+        }
+    }
+
+    /// Gives a session the reply to its write.
+    pub fn reply<R: Wait>(&self, rt: &R, session: usize, reply: Reply<J>) {
+        if let Some(place) = self.replies.get(session) {
+            place.put(rt, reply);
+        }
+    }
+
+    /// Waits for a reply to a session.
+    pub fn take_reply<R: Wait>(&self, rt: &R, session: usize) -> Option<Reply<J>> {
+        self.replies.get(session)?.take(rt)
+    }
+
+    /// Gives a session the acknowledgement of its fence by a base shard.
+    pub fn acknowledge<R: Wait>(&self, rt: &R, base: usize, ack: Ack<J>) {
+        if let Some(place) = self.ack_place(ack.marker.session, base) {
+            place.put(rt, ack);
+        }
+    }
+
+    /// Waits for an acknowledgement of a session's fence by a base shard.
+    pub fn take_ack<R: Wait>(&self, rt: &R, session: usize, base: usize) -> Option<Ack<J>> {
+        self.ack_place(session, base)?.take(rt)
+    }
+
+    fn ack_place(&self, session: usize, base: usize) -> Option<&Mailbox<Ack<J>>> {
+        let place = session.checked_mul(self.queues.len())?.checked_add(base)?;
+        self.acks.get(place)
+    }
+}
+
+fn mailboxes<T: Drop>(alloc: Global, count: usize) -> Result<Vec<Mailbox<T>>, AllocError> {
+    let mut places = Vec::new(alloc);
+    for _place in 0..count {
+        places.push(Mailbox::new())?;
+    }
+    Ok(places)
+}
