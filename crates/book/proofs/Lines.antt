@@ -29,12 +29,12 @@ pub each_later : (v w : List Item) (fs : List FrontView) → IsPrefix v w → Ea
 each_later v w fs vw = Each-weaker (IsReached v) (IsReached w) (λ f. reached_later v w f vw) fs
 
 -- ---- one line for all stage shards
-row_at : (F : ViewLayout → List Lengths) (vs : List ViewLayout) (v : ℕ) (d : ViewLayout) → v < length vs → slice_index_or (map F vs) v [] ≡ F (slice_index_or vs v d)
+pub row_at : (F : ViewLayout → List Lengths) (vs : List ViewLayout) (v : ℕ) (d : ViewLayout) → v < length vs → slice_index_or (map F vs) v [] ≡ F (slice_index_or vs v d)
 row_at F [] v d lt = absurd (omega arith)
 row_at F (w ∷ vs) zero d lt = refl
 row_at F (w ∷ vs) (suc v) d lt = row_at F vs v d (omega arith)
 
-same_in : {A : Type 0} (x d : A) (n j : ℕ) → j < n → slice_index_or (replicate n x) j d ≡ x
+pub same_in : {A : Type 0} (x d : A) (n j : ℕ) → j < n → slice_index_or (replicate n x) j d ≡ x
 same_in x d zero j lt = absurd (omega arith)
 same_in x d (suc n) zero lt = refl
 same_in x d (suc n) (suc j) lt = same_in x d n j (omega arith)
@@ -86,3 +86,8 @@ fronts_end h fs i done each = rw (take_all i fs done) at each
 
 pub reached_now : (f : FrontView) (w : List Item) → IsPrefix f.seen w → f.len ≤ length (log_of f.base f.seen) → IsReached w f
 reached_now f w vw le = reached_later f.seen w f vw (record { seen = prefix_self f.seen; len = le })
+
+pub even_at : (p : Layout) (line : List ℕ) (v j : ℕ) → v < length p.views → j < (view_at p v).shards → floor_at (even_floors p line) v j ≡ replicate p.stages line
+even_at p line v j lv lj =
+    let cut = replicate p.stages line in
+    ap (λ (r : List Lengths). slice_index_or r j []) (row_at (λ (w : ViewLayout). replicate w.shards cut) p.views v no_view lv) ∙ same_in cut [] ((view_at p v).shards) j lj

@@ -205,6 +205,7 @@ impl<J: Naming> SessionWord<J> {
         requires own { Each (IsOwn J.plan self.old.seen self.old.session) (places_of own.now.items) }
         requires room { self.old.answered + 1 < 2 ^ 64 }
         ensures legal { IsLegal J.plan J.sessions self.new.seen }
+        ensures others { IsPrefix cuts.seen self.new.seen }
         ensures told { MatchBool result (IsAnswered J.plan self.old (fence self.old.session (places_of own.now.items) cuts.floors) cuts.floors self.new) (IsStolen J.plan self.old self.new) }
     {
         let Cuts {

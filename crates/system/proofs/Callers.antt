@@ -2,7 +2,7 @@
 use Rattle.std.proofs.Common.{◌≡◌, ◌≢◌, ◌⊎◌, ℕ, zero, suc, ◌+◌, ◌<◌, ◌≤◌, ◌==◌, Bool, true, false, List, [], ◌∷◌, ◌++◌, length, map, replicate, slice_get, slice_index_or, slice_set, Option, Some, None, refl, ap, sym, ◌∙◌, subst, arith, append_assoc, length-append, inl, inr}
 use Rattle.std.proofs.lemmas.Bool.Decides.{eqb_tells}
 use Rattle.std.proofs.lemmas.Option.{slice_get_within}
-use Rattle.std.proofs.lemmas.List.{get_or-set_other, length-set}
+use Rattle.std.proofs.lemmas.List.{get_or-set_other, length-set, length-replicate}
 use Rattle.std.proofs.lemmas.List.Concat.{flat_map-append}
 use Rattle.std.proofs.lemmas.Grind.{get_or-set_at}
 use mathlib.Core.List.{IsPrefix}
@@ -16,7 +16,7 @@ use Rattle.book.specs.Replies.{IsAfter}
 use Rattle.book.proofs.HistoryLaws.{authors_push}
 use Rattle.book.proofs.Prefixes.{prefix_self, prefix_get, prefix_length}
 use Rattle.book.proofs.Fronts.{length_authors}
-use Rattle.book.proofs.Later.{at_most_trans}
+use Rattle.book.proofs.Later.{at_most_trans, at_most_none}
 use Rattle.row.specs.declared.refused.Refused.{Refused}
 use Rattle.system.specs.Inserts.{base_of, first_of, stolen_refusal, call_refusal, IsTaken, IsAnswer, IsUntaken, Declines, asked, untaken}
 use Rattle.system.specs.Callers.{Caller, IsWrote, accepted_at, whole_cut, IsCaller}
@@ -78,7 +78,7 @@ pub caller_later : (p : Layout) (c : Caller) (m : ℕ) (t : Bool) (h : List Item
 caller_later p c m t h x grown = record {
   width = x.width;
   own = λ b k is. wrote_later c.seen h c.session b k grown (x.own b k is);
-  floors = λ v j. at_most_trans (floor_at c.floors v j) (whole_cut p c.seen) (whole_cut p h) (x.floors v j) (whole_later p c.seen h grown);
+  floors = λ v j lv lj. at_most_trans (floor_at c.floors v j) (whole_cut p c.seen) (whole_cut p h) (x.floors v j lv lj) (whole_later p c.seen h grown);
 }
 
 pub caller_taken : (p : Layout) (c : Caller) (m b k : ℕ) (e : Change) (h : List Item) → IsCaller p c → b < base_count p → IsAfter c.seen (write c.session c.number b e) b k h
@@ -117,3 +117,16 @@ pub untaken_write : (p : Layout) (old new : Caller) (name : List ℕ) (e : Chang
 untaken_write p old new name e t b r fresh free named is x =
     let none : call_refusal p old name e ≡ None = ap (λ o. first_of o (write_refusal p (table_named p name) e)) fresh ∙ free in
     untaken none t named (subst (λ (n : ℕ). IsUntaken p old new n e r) is x)
+
+none_at : (n b : ℕ) → accepted_at (replicate n None) b ≡ None
+none_at zero b = refl
+none_at (suc n) zero = refl
+none_at (suc n) (suc b) = none_at n b
+
+-- a session that has made no call
+pub caller_new : (p : Layout) (s : ℕ) (h : List Item) (accepted : List (Option ℕ)) (floors : Floors) → accepted ≡ replicate (base_count p) None → ((v j : ℕ) → floor_at floors v j ≡ []) → IsCaller p (record { session = s; number = 0; stolen = false; seen = h; accepted = accepted; floors = floors })
+caller_new p s h accepted floors is zeros = record {
+  width = ap length is ∙ length-replicate (base_count p) None;
+  own = λ b k at. absurd (cc (sym (none_at (base_count p) b) ∙ (ap (λ l. accepted_at l b) (sym is) ∙ at)));
+  floors = λ v j lv lj. subst (λ (d : Lengths). IsAtMost d (whole_cut p h)) (sym (zeros v j)) (at_most_none (whole_cut p h));
+}

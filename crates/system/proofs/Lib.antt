@@ -1,2 +1,3 @@
 pub mod Histories
 pub mod Callers
+pub mod Fences

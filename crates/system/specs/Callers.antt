@@ -5,6 +5,7 @@ use Rattle.plan.specs.Layouts.{Layout}
 use Rattle.book.specs.Places.{base_count, sources}
 use Rattle.book.specs.Histories.{Item, Lengths, Floors, floor_at, log_of, authors_of}
 use Rattle.book.specs.Cuts.{IsAtMost}
+use Rattle.book.specs.Legal.{EachShard}
 
 -- who it is, the number of its next call, whether its word was moved by another, what it has seen, the greatest index accepted in each base shard, and its floors
 pub record Caller : Type 0 where
@@ -32,4 +33,4 @@ whole_cut p h = replicate p.stages (map (λ b. length (log_of b h)) (sources p))
 pub record IsCaller (p : Layout) (c : Caller) : Type 0 where
   pub width : length c.accepted ≡ base_count p
   pub own : (b k : ℕ) → accepted_at c.accepted b ≡ Some k → IsWrote c.seen c.session b k
-  pub floors : (v j : ℕ) → IsAtMost (floor_at c.floors v j) (whole_cut p c.seen)
+  pub floors : EachShard p (λ v j. IsAtMost (floor_at c.floors v j) (whole_cut p c.seen))

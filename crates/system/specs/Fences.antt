@@ -6,6 +6,7 @@ use Rattle.row.specs.declared.refused.Refused.TheVariants.{NoMemory, Stopped, Be
 use Rattle.plan.specs.Layouts.{Layout}
 use Rattle.book.specs.Places.{sources, source_at}
 use Rattle.book.specs.Histories.{Item, fence, Place, len_at, floor_at, log_of}
+use Rattle.book.specs.Fronts.{FrontView}
 use Rattle.book.specs.Legal.{EachShard}
 use Rattle.book.specs.Pages.{IsAdded}
 use Rattle.book.specs.Sessions.{own_word}
@@ -23,6 +24,16 @@ own_places p accepted = flat_map (λ b. place_of b (accepted_at accepted b)) (so
 -- each floor has every entry of a source that the history has
 abbrev pub IsFloored : Layout → List Item → Caller → Type 0
 IsFloored p h c = EachShard p (λ v j. (s i : ℕ) → s < p.stages → i < length (sources p) → length (log_of (source_at p i) h) ≤ len_at (floor_at c.floors v j) s i)
+
+-- the front has all that the history has of its log
+abbrev pub IsCovering : List Item → FrontView → Type 0
+IsCovering h f = length (log_of f.base h) ≤ f.len
+
+-- each front is no shorter than the one at its place
+abbrev pub AreLonger : List FrontView → List FrontView → Type 0
+AreLonger [] gs = Unit {0}
+AreLonger (f ∷ fs) [] = Unit {0}
+AreLonger (f ∷ fs) (g ∷ gs) = (f.len ≤ g.len) × AreLonger fs gs
 
 -- a fence item stands at the end of what was then seen, with the greatest accepted index of each source, and each floor has all that its session had seen
 pub record IsFenced (p : Layout) (old new : Caller) : Type 0 where

@@ -2,6 +2,7 @@
 #![tactic(auto)]
 
 mod call;
+mod fence;
 mod queue;
 pub mod session;
 mod shared;

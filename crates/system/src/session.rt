@@ -43,22 +43,23 @@ pub struct Accepted {
 /// One caller's end of the store. It can move to another thread.
 #[derive(Drop)]
 pub struct Session<J: Naming> {
-    word: SessionWord<J>,
-    number: u64,
-    stolen: bool,
-    seen: Part<J>,
-    accepted: Vec<Option<u64>>,
-    shared: Arc<Shared<J>>,
+    pub(crate) word: SessionWord<J>,
+    pub(crate) number: u64,
+    pub(crate) stolen: bool,
+    pub(crate) seen: Part<J>,
+    pub(crate) accepted: Vec<Option<u64>>,
+    pub(crate) shared: Arc<Shared<J>>,
 }
 
 impl<J: Naming> Model for Session<J> {
+    ghost use Rattle.std.specs.Prelude.{◌≤◌};
     ghost use Rattle.system.specs.Callers.{Caller, IsCaller};
 
     ghost Value = { Caller };
 
     ghost view = { λ s. record { session = s.word.session; number = s.number; stolen = s.stolen; seen = s.seen; accepted = s.accepted.items; floors = s.word.floors } };
 
-    ghost invariant = { λ s. IsCaller J.plan (record { session = s.word.session; number = s.number; stolen = s.stolen; seen = s.seen; accepted = s.accepted.items; floors = s.word.floors }) };
+    ghost invariant = { λ s. IsCaller J.plan (record { session = s.word.session; number = s.number; stolen = s.stolen; seen = s.seen; accepted = s.accepted.items; floors = s.word.floors }) × (s.word.answered ≤ s.number) };
 }
 
 impl<J: Naming> Session<J> {
@@ -99,7 +100,7 @@ impl<J: Naming> Session<J> {
     }
 
     // Whether no call can be made any more.
-    fn is_spent(&self) -> bool
+    pub(crate) fn is_spent(&self) -> bool
         ensures spent { IsTrue result → stolen_refusal self.now ≡ Some Refused.Stolen }
         ensures unspent { IsFalse result → (stolen_refusal self.now ≡ None) × (self.now.number < last_number) }
     {

@@ -1,6 +1,7 @@
 //! What the threads of a system share.
 ghost use Rattle.std.specs.Prelude.{◌≡◌, ◌⊎◌, ◌<◌, IfErr};
-ghost use Rattle.book.specs.Places.{sources};
+ghost use Rattle.row.specs.Bags.{Each};
+ghost use Rattle.book.specs.Places.{base_count, sources};
 
 use crate::queue::{Full, Mailbox, Queue};
 use book::front::Front;
@@ -48,15 +49,16 @@ pub struct Shared<J: Naming> {
 }
 
 impl<J: Naming> Model for Shared<J> {
-    ghost use Rattle.std.specs.Prelude.{◌≡◌};
+    ghost use Rattle.std.specs.Prelude.{◌≡◌, ◌<◌};
+    ghost use Rattle.row.specs.Bags.{Each};
     ghost use Rattle.plan.specs.Layouts.{Layout};
-    ghost use Rattle.book.specs.Places.{sources as sources_of};
+    ghost use Rattle.book.specs.Places.{base_count, sources as sources_of};
 
     ghost Value = { Layout };
 
     ghost view = { λ s. s.plan };
 
-    ghost invariant = { λ s. (s.plan ≡ J.plan) × (s.sources.items ≡ sources_of J.plan) };
+    ghost invariant = { λ s. (s.plan ≡ J.plan) × (s.sources.items ≡ sources_of J.plan) × Each (λ b. b < base_count J.plan) s.sources.items };
 }
 
 impl<J: Naming> Shared<J> {
@@ -95,7 +97,8 @@ impl<J: Naming> Shared<J> {
 
     /// The base shards that are sources of the stage, in order.
     pub fn sources(&self) -> &[usize]
-        ensures { result.now ≡ sources J.plan }
+        ensures sources { result.now ≡ sources J.plan }
+        ensures range { Each (λ b. b < base_count J.plan) result.now }
     {
         self.sources.as_slice()
     }

@@ -4,7 +4,7 @@ use Rattle.system.proofs.Callers.{caller_later}
 use Rattle.system.proofs.session.Session.meet.Goals as goal
 
 pub invariant_of-self : goal.invariant_of-self
-invariant_of-self g c = caller_later g.J.Naming.plan _ _ _ c.meet.new.self c.self.invariant c.meet.ensures.this
+invariant_of-self g c = (caller_later g.J.Naming.plan _ _ _ c.meet.new.self c.self.invariant.0 c.meet.ensures.this, c.self.invariant.1)
 
 pub invariant_of-other : goal.invariant_of-other
-invariant_of-other g c = caller_later g.J.Naming.plan _ _ _ c.meet.new.other c.other.invariant c.meet.ensures.that
+invariant_of-other g c = (caller_later g.J.Naming.plan _ _ _ c.meet.new.other c.other.invariant.0 c.meet.ensures.that, c.other.invariant.1)

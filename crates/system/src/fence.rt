@@ -1,0 +1,185 @@
+//! Fences of a session.
+ghost use Rattle.std.specs.Prelude.{◌≡◌, ◌⊎◌, ◌+◌, ◌<◌, ◌≤◌, ℕ, length, map, IfOk, OnOk, IfErr, IfSome, Some, Ok};
+ghost use mathlib.Core.List.{IsPrefix};
+ghost use Rattle.row.specs.Bags.{Each};
+ghost use Rattle.book.specs.Fronts.{FrontView};
+ghost use Rattle.book.specs.Legal.{IsLegal};
+ghost use Rattle.book.specs.Places.{sources};
+ghost use Rattle.book.specs.Sessions.{places_of};
+ghost use Rattle.system.specs.Fences.{AreLonger};
+
+use crate::session::Session;
+use crate::shared::{Ack, Marker, Shared, ToBase};
+use book::cut::{Cuts, Place};
+use book::front::Front;
+use book::law::Naming;
+use row::refused::Refused;
+use std::alloc::{AllocError, Global};
+use std::sync::Wait;
+
+impl<J: Naming> Session<J> {
+    ghost use Rattle.system.specs.Fences.{IsCovering, IsFenced, IsUnfenced, own_places};
+    ghost use Rattle.system.specs.Inserts.{stolen_refusal};
+
+    /// Raises the floors, as one step: afterwards each floor has every entry of a source that the
+    /// session had seen, and each of its own accepted writes there. It looks at each source's log,
+    /// sends a marker through each source's thread, and waits for them.
+    ///
+    /// Refused with `Stolen` where the session's call numbers are spent or its word was moved by
+    /// another, `Stopped` where a source or the system has stopped, `Behind` where a source had
+    /// less than was seen of it, or `NoMemory`. A refused fence leaves the floors and what was
+    /// accepted, and but for `Stolen` what was seen. Cost: a way through one queue and back for
+    /// each source, and a cut for each shard of each view.
+    pub fn fence<R: Wait>(&mut self, rt: &R, alloc: Global) -> Result<(), Refused>
+        ensures legal { IsLegal J.plan J.sessions self.new.seen }
+        ensures fenced { OnOk result (IsFenced J.plan self.old self.new) }
+        ensures refused { IfErr result (λ e. (stolen_refusal self.old ≡ Some e) × (self.new ≡ self.old) ⊎ IsUnfenced self.old self.new e) }
+    {
+        let answer = self.fence_sources(rt, alloc);
+        self.seen.is_legal();
+        answer
+    }
+
+    fn fence_sources<R: Wait>(&mut self, rt: &R, alloc: Global) -> Result<(), Refused>
+        ensures fenced { OnOk result (IsFenced J.plan self.old self.new) }
+        ensures refused { IfErr result (λ e. (stolen_refusal self.old ≡ Some e) × (self.new ≡ self.old) ⊎ IsUnfenced self.old self.new e) }
+    {
+        if self.is_spent() {
+            return Err(Refused::Stolen);
+        }
+        let Ok(looked) = self.look_at_sources(alloc) else {
+            return Err(Refused::NoMemory);
+        };
+        let marker = Marker {
+            session: self.word.number(),
+            number: self.number,
+        };
+        match acknowledged(rt, alloc, &self.shared, marker, looked.as_slice()) {
+            Ok(fronts) => self.end_fence(alloc, fronts.as_slice()),
+            Err(refused) => {
+                self.number += 1;
+                Err(refused)
+            }
+        }
+    }
+
+    // A front of each source that has all of its log, which is no less than was seen of it.
+    fn look_at_sources(&self, alloc: Global) -> Result<Vec<Front<J>>, AllocError>
+        ensures bases { IfOk result (λ v. map (λ (f : FrontView). f.base) v.items ≡ sources J.plan) }
+        ensures all { IfOk result (λ v. Each (IsCovering self.now.seen) v.items) }
+    {
+        let mut fronts = Vec::new(alloc);
+        for base in self.shared.sources() {
+            let mut front = self.seen.front(*base);
+            front.catch_up(self.shared.book());
+            fronts.push(front)?;
+        }
+        Ok(fronts)
+    }
+
+    // Makes the fence item, at a cut of these fronts of the sources.
+    fn end_fence(&mut self, alloc: Global, fronts: &[Front<J>]) -> Result<(), Refused>
+        requires bases { map (λ (f : FrontView). f.base) fronts.now ≡ sources J.plan }
+        requires all { Each (IsCovering self.old.seen) fronts.now }
+        requires number { self.old.number < 18446744073709551615 }
+        ensures fenced { OnOk result (IsFenced J.plan self.old self.new) }
+        ensures refused { IfErr result (λ e. IsUnfenced self.old self.new e) }
+    {
+        self.number += 1;
+        let Ok(own) = self.own_places(alloc) else {
+            return Err(Refused::NoMemory);
+        };
+        let Ok(cuts) = Cuts::even(alloc, self.shared.plan(), &self.seen, fronts) else {
+            return Err(Refused::NoMemory);
+        };
+        self.word.learn(&self.seen);
+        if self.word.fence(self.shared.book(), &own, cuts) {
+            self.seen = self.word.part();
+            Ok(())
+        } else {
+            self.seen = self.word.part();
+            self.stolen = true;
+            Err(Refused::Stolen)
+        }
+    }
+
+    // The greatest accepted index of each source.
+    fn own_places(&self, alloc: Global) -> Result<Vec<Place>, AllocError>
+        ensures { IfOk result (λ v. places_of v.items ≡ own_places J.plan self.now.accepted) }
+    {
+        let mut own = Vec::new(alloc);
+        for base in self.shared.sources() {
+            if let Some(Some(index)) = self.accepted.get(*base) {
+                own.push(Place {
+                    base: *base,
+                    index: *index,
+                })?;
+            }
+        }
+        Ok(own)
+    }
+}
+
+// Sends a marker to each source.
+fn send_markers<J: Naming, R: Wait>(
+    rt: &R,
+    shared: &Shared<J>,
+    marker: Marker,
+) -> Result<(), Refused>
+    ensures only { IfErr result (λ e. (e ≡ Refused.NoMemory) ⊎ (e ≡ Refused.Stopped)) }
+{
+    for base in shared.sources() {
+        shared.send(rt, *base, ToBase::Marker(marker))?;
+    }
+    Ok(())
+}
+
+// The front that each source had when a marker came to it, which is no shorter than what was looked
+// at.
+fn acknowledged<J: Naming, R: Wait>(
+    rt: &R,
+    alloc: Global,
+    shared: &Shared<J>,
+    marker: Marker,
+    looked: &[Front<J>],
+) -> Result<Vec<Front<J>>, Refused>
+    ensures bases { IfOk result (λ v. map (λ (f : FrontView). f.base) v.items ≡ map (λ (f : FrontView). f.base) looked.now) }
+    ensures longer { IfOk result (λ v. AreLonger looked.now v.items) }
+    ensures only { IfErr result (λ e. (e ≡ Refused.NoMemory) ⊎ (e ≡ Refused.Stopped) ⊎ (e ≡ Refused.Behind)) }
+{
+    send_markers(rt, shared, marker)?;
+    let mut fronts = Vec::new(alloc);
+    for front in looked {
+        let Some(acked) = front_of_ack(rt, shared, marker, front.base()) else {
+            return Err(Refused::Stopped);
+        };
+        if acked.len() < front.len() {
+            return Err(Refused::Behind);
+        }
+        fronts.push(acked)?;
+    }
+    Ok(fronts)
+}
+
+// Waits for a source's acknowledgement of this marker, and gives its front; none where it has
+// stopped.
+fn front_of_ack<J: Naming, R: Wait>(
+    rt: &R,
+    shared: &Shared<J>,
+    marker: Marker,
+    base: usize,
+) -> Option<Front<J>>
+    ensures { IfSome result (λ f. f.base ≡ base) }
+{
+    for _ in rt.forever() {
+        if let Some(Ack { marker: of, front }) = shared.take_ack(rt, marker.session, base) {
+            if of.session == marker.session && of.number == marker.number {
+                let front = front?;
+                if front.base() == base {
+                    return Some(front);
+                }
+            }
+        }
+    }
+    unreachable!()
+}
