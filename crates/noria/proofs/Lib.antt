@@ -1,3 +1,0 @@
-pub mod Single
-pub mod Writes
-pub mod Inserts

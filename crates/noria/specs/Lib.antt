@@ -1,3 +1,1 @@
-pub mod Sessions
-pub mod Ready
 pub mod Arguments

@@ -7,6 +7,8 @@ use crate::runner::run_script;
 use crate::texts::Texts;
 use std::alloc::Global;
 use std::io::Write;
+use std::sync::Wait;
+use std::thread::Threads;
 
 /// What standard error has where the words are of no known form.
 pub const USAGE: &str = "usage: noria run built-in SCRIPT";
@@ -14,8 +16,9 @@ pub const USAGE: &str = "usage: noria run built-in SCRIPT";
 /// Runs the program on the words behind its name, and gives the exit status: 0 where all was run,
 /// also where single calls were refused; 1 where a file, the memory or the output was refused,
 /// with the refusal on `err`; 2 for any other words, with the usage line there. A failed write to
-/// `err` leaves the status as it is.
-pub fn command<T: Texts, O: Write, E: Write>(
+/// `err` leaves the status as it is. All threads that it starts have ended.
+pub fn command<R: Threads + Wait + Copy + Drop + Send + 'static, T: Texts, O: Write, E: Write>(
+    rt: R,
     alloc: Global,
     words: &[String],
     texts: &mut T,
@@ -29,7 +32,7 @@ pub fn command<T: Texts, O: Write, E: Write>(
         let _ = writeln!(err, "{USAGE}");
         return 2;
     };
-    match run_script(alloc, script, texts, out) {
+    match run_script(rt, alloc, script, texts, out) {
         Ok(()) => 0,
         Err(fault) => {
             let _ = writeln!(err, "{fault}");

@@ -4,7 +4,6 @@
 mod command;
 mod fault;
 mod runner;
-mod session;
 #[cfg(test)]
 mod tests;
 mod texts;
@@ -21,6 +20,7 @@ use std::{env, io};
 fn main(rt: HostRuntime) -> ExitCode {
     let status = match words(&rt) {
         Ok(words) => command(
+            rt,
             rt.alloc(),
             words.as_slice(),
             &mut FileTexts(&rt),

@@ -1,21 +1,30 @@
 //! Runs a script: its calls one after the other, and a line of output for each.
+ghost use Rattle.std.specs.Prelude.{◌≡◌};
+
 use crate::fault::Fault;
-use crate::session::{Accepted, Session};
 use crate::texts::Texts;
+use book::law::Naming;
+use book::shared::Opened;
 use plan::kinds::Kind;
 use plan::plan::Plan;
 use row::refused::Refused;
 use row::row::Row;
 use script::cell::value_of;
 use script::command::Command;
-use script::script::read_script;
+use script::script::{Call, read_script};
 use std::alloc::Global;
 use std::io::{BufWriter, Write};
+use std::marker::Brand;
+use std::sync::Wait;
+use std::thread::Threads;
+use system::session::{Accepted, Session};
+use system::system::System;
 
 /// Reads and checks the script of this name, runs its calls over the built-in plan, and writes a
 /// line for each answer. A refused call is a line too, and the script goes on. Where the output
-/// cannot be written, no further call is made.
-pub fn run_script<T: Texts, O: Write>(
+/// cannot be written, no further call is made. All threads that it starts have ended.
+pub fn run_script<R: Threads + Wait + Copy + Drop + Send + 'static, T: Texts, O: Write>(
+    rt: R,
     alloc: Global,
     script: &str,
     texts: &mut T,
@@ -24,42 +33,80 @@ pub fn run_script<T: Texts, O: Write>(
     let text = texts.text(script)?;
     let calls = read_script(alloc, text.as_slice())?;
     let plan = Plan::built_in(alloc)?;
-    let mut session = Session::open(alloc, &plan);
+    let opened = Opened::new(alloc, &plan, 1)?;
+    run_calls::<Brand, R, O>(rt, alloc, opened, plan, calls, out)
+}
+
+// Starts the system, and runs the calls in its one session.
+fn run_calls<J: Naming + 'static, R: Threads + Wait + Copy + Drop + Send + 'static, O: Write>(
+    rt: R,
+    alloc: Global,
+    opened: Opened,
+    plan: Plan,
+    calls: Vec<Call>,
+    out: &mut O,
+) -> Result<(), Fault>
+    requires book { opened.book ≡ J.book }
+    requires plan { (opened.plan ≡ J.plan) × (plan ≡ J.plan) }
+    requires sessions { (opened.sessions ≡ J.sessions) × (J.sessions ≡ 1) }
+{
+    let mut system = System::<J>::start(rt, alloc, opened, plan, 1)?;
+    let answer = match system.session(alloc) {
+        Ok(session) => answer_calls(&rt, alloc, session, calls, out),
+        Err(refused) => Err(Fault::Refused(refused)),
+    };
+    system.stop(&rt);
+    answer
+}
+
+fn answer_calls<J: Naming, R: Wait, O: Write>(
+    rt: &R,
+    alloc: Global,
+    mut session: Session<J>,
+    calls: Vec<Call>,
+    out: &mut O,
+) -> Result<(), Fault> {
     let mut out = BufWriter::new(alloc, out).map_err(|_| Refused::NoMemory)?;
     for call in calls {
-        answer_call(alloc, &mut session, call.command, &mut out)?;
+        answer_call(rt, alloc, &mut session, call.command, &mut out)?;
     }
     out.flush()
         .map_err(|_| Fault::Refused(Refused::CannotWrite))
 }
 
-fn answer_call<O: Write>(
+fn answer_call<J: Naming, R: Wait, O: Write>(
+    rt: &R,
     alloc: Global,
-    session: &mut Session<'_>,
+    session: &mut Session<J>,
     command: Command,
     out: &mut O,
 ) -> Result<(), Fault> {
     let written = match command {
         Command::Insert { table, cells } => {
-            match insert(alloc, session, table.as_str(), cells) {
+            match insert(rt, alloc, session, table.as_str(), cells) {
                 Ok(Accepted { shard, index, .. }) => {
                     writeln!(out, "accepted {table}.{shard} {index}")
                 }
                 Err(refused) => writeln!(out, "{}", Fault::Refused(refused)),
             }
         }
+        Command::Fence => match session.fence(rt, alloc) {
+            Ok(()) => writeln!(out, "fenced"),
+            Err(refused) => writeln!(out, "{}", Fault::Refused(refused)),
+        },
     };
     written.map_err(|_| Fault::Refused(Refused::CannotWrite))
 }
 
-fn insert(
+fn insert<J: Naming, R: Wait>(
+    rt: &R,
     alloc: Global,
-    session: &mut Session<'_>,
+    session: &mut Session<J>,
     table: &str,
     cells: Vec<String>,
 ) -> Result<Accepted, Refused> {
     let row = row_of_words(alloc, session.plan(), table, cells)?;
-    session.insert(alloc, table, row)
+    session.insert(rt, alloc, table, row)
 }
 
 // Each word is read by its column; where there is no such column it is a text.

@@ -1,14 +1,12 @@
 //! The program, called with texts and outputs of memory.
 use crate::command::{USAGE, command};
-use crate::session::Session;
 use crate::texts::Texts;
-use plan::plan::Plan;
 use row::refused::Refused;
-use row::row::Row;
-use row::value::Value;
 use std::alloc::{AllocError, Global};
 use std::io;
+use std::sync::Wait;
 use std::test::Fail;
+use std::thread::Threads;
 
 /// One script, under the name `script`.
 #[derive(Drop)]
@@ -42,7 +40,12 @@ fn words_of(alloc: Global, words: &[&str]) -> Result<Vec<String>, AllocError> {
     Ok(all)
 }
 
-fn run_words(alloc: Global, words: &[&str], script: &[u8]) -> Result<Ran, AllocError> {
+fn run_words<R: Threads + Wait + AllocGlobal + Copy + Drop + Send + 'static>(
+    rt: R,
+    words: &[&str],
+    script: &[u8],
+) -> Result<Ran, AllocError> {
+    let alloc = rt.alloc();
     let words = words_of(alloc, words)?;
     let mut texts = OneText {
         alloc,
@@ -50,13 +53,17 @@ fn run_words(alloc: Global, words: &[&str], script: &[u8]) -> Result<Ran, AllocE
     };
     let mut out = Vec::with_capacity(alloc, 4096)?;
     let mut err = Vec::with_capacity(alloc, 256)?;
-    let status = command(alloc, words.as_slice(), &mut texts, &mut out, &mut err);
+    let status = command(rt, alloc, words.as_slice(), &mut texts, &mut out, &mut err);
     Ok(Ran { status, out, err })
 }
 
 // A run that met no want of memory.
-fn run_whole(alloc: Global, words: &[&str], script: &[u8]) -> Result<Ran, AllocError> {
-    let ran = run_words(alloc, words, script)?;
+fn run_whole<R: Threads + Wait + AllocGlobal + Copy + Drop + Send + 'static>(
+    rt: R,
+    words: &[&str],
+    script: &[u8],
+) -> Result<Ran, AllocError> {
+    let ran = run_words(rt, words, script)?;
     let met = |line: &[u8]| line == b"refused 1 NoMemory".as_slice();
     if ran.out.split(is_line_feed).any(met) || ran.err.split(is_line_feed).any(met) {
         return Err(AllocError);
@@ -68,8 +75,11 @@ fn is_line_feed(byte: &u8) -> bool {
     *byte == b'\n'
 }
 
-fn run(alloc: Global, script: &[u8]) -> Result<Ran, AllocError> {
-    run_whole(alloc, &["run", "built-in", "script"], script)
+fn run<R: Threads + Wait + AllocGlobal + Copy + Drop + Send + 'static>(
+    rt: R,
+    script: &[u8],
+) -> Result<Ran, AllocError> {
+    run_whole(rt, &["run", "built-in", "script"], script)
 }
 
 const WORKED: &[u8] = b"insert notes 1 7 a
@@ -81,11 +91,33 @@ insert notes 2 7 \"c d\"
 
 #[test]
 fn the_worked_script(rt: HostRuntime) -> Result<(), Fail> {
-    let ran = run(rt.alloc(), WORKED)?;
+    let ran = run(rt, WORKED)?;
     let wanted = b"accepted notes.0 0
 refused 4 Duplicate
 refused 3 BadRow
 refused 2 UnknownTable
+accepted notes.0 1
+";
+    assert_eq!(rt; ran.status, 0);
+    assert_eq!(rt; ran.out.as_slice(), wanted.as_slice());
+    assert_eq!(rt; ran.err.as_slice(), b"".as_slice());
+    Ok(())
+}
+
+const FENCED: &[u8] = b"fence
+insert notes 1 7 a
+insert notes 1 8 b
+fence
+insert notes 2 8 b
+";
+
+#[test]
+fn fences_between_inserts(rt: HostRuntime) -> Result<(), Fail> {
+    let ran = run(rt, FENCED)?;
+    let wanted = b"fenced
+accepted notes.0 0
+refused 4 Duplicate
+fenced
 accepted notes.0 1
 ";
     assert_eq!(rt; ran.status, 0);
@@ -105,7 +137,7 @@ fn other_words_print_the_usage(rt: HostRuntime) -> Result<(), Fail> {
         &["run", "built-in", "script", "script"],
     ];
     for words in others {
-        let ran = run_whole(rt.alloc(), words, WORKED)?;
+        let ran = run_whole(rt, words, WORKED)?;
         assert_eq!(rt; ran.status, 2);
         assert_eq!(rt; ran.out.as_slice(), b"".as_slice());
         let wanted = b"usage: noria run built-in SCRIPT\n";
@@ -117,7 +149,7 @@ fn other_words_print_the_usage(rt: HostRuntime) -> Result<(), Fail> {
 
 #[test]
 fn an_empty_script_prints_nothing(rt: HostRuntime) -> Result<(), Fail> {
-    let ran = run(rt.alloc(), b"")?;
+    let ran = run(rt, b"")?;
     assert_eq!(rt; ran.status, 0);
     assert_eq!(rt; ran.out.as_slice(), b"".as_slice());
     assert_eq!(rt; ran.err.as_slice(), b"".as_slice());
@@ -126,7 +158,7 @@ fn an_empty_script_prints_nothing(rt: HostRuntime) -> Result<(), Fail> {
 
 #[test]
 fn a_bad_line_refuses_the_script(rt: HostRuntime) -> Result<(), Fail> {
-    let scripts: [(&[u8], &[u8]); 6] = [
+    let scripts: [(&[u8], &[u8]); 7] = [
         (b"jump", b"refused 30 BadScript line 1\n"),
         (
             b"# a\n\ninsert notes 1 7 a\ninsert notes 1 7 \"a\n",
@@ -141,10 +173,11 @@ fn a_bad_line_refuses_the_script(rt: HostRuntime) -> Result<(), Fail> {
             b"refused 30 BadScript line 2\n",
         ),
         (b"insert notes\n", b"refused 30 BadScript line 1\n"),
+        (b"fence\nfence notes\n", b"refused 30 BadScript line 2\n"),
         (b"insert notes 1 7 a\r\n", b"refused 30 BadScript line 1\n"),
     ];
     for (script, wanted) in scripts {
-        let ran = run(rt.alloc(), script)?;
+        let ran = run(rt, script)?;
         assert_eq!(rt; ran.status, 1);
         assert_eq!(rt; ran.out.as_slice(), b"".as_slice());
         assert_eq!(rt; ran.err.as_slice(), wanted);
@@ -154,7 +187,7 @@ fn a_bad_line_refuses_the_script(rt: HostRuntime) -> Result<(), Fail> {
 
 #[test]
 fn a_script_that_is_not_there(rt: HostRuntime) -> Result<(), Fail> {
-    let ran = run_whole(rt.alloc(), &["run", "built-in", "nowhere"], WORKED)?;
+    let ran = run_whole(rt, &["run", "built-in", "nowhere"], WORKED)?;
     assert_eq!(rt; ran.status, 1);
     assert_eq!(rt; ran.out.as_slice(), b"".as_slice());
     assert_eq!(rt; ran.err.as_slice(), b"refused 31 CannotRead\n".as_slice());
@@ -183,7 +216,7 @@ refused 3 BadRow
 accepted notes.0 0
 accepted notes.0 1
 ";
-    let ran = run(rt.alloc(), script)?;
+    let ran = run(rt, script)?;
     assert_eq!(rt; ran.status, 0);
     assert_eq!(rt; ran.out.as_slice(), wanted.as_slice());
     Ok(())
@@ -201,22 +234,11 @@ fn script_of_body(alloc: Global, len: usize) -> Result<Vec<u8>, AllocError> {
 #[test]
 fn texts_have_at_most_255_bytes(rt: HostRuntime) -> Result<(), Fail> {
     let longest = script_of_body(rt.alloc(), 255)?;
-    let ran = run(rt.alloc(), longest.as_slice())?;
+    let ran = run(rt, longest.as_slice())?;
     assert_eq!(rt; ran.out.as_slice(), b"accepted notes.0 0\n".as_slice());
     let longer = script_of_body(rt.alloc(), 256)?;
-    let ran = run(rt.alloc(), longer.as_slice())?;
+    let ran = run(rt, longer.as_slice())?;
     assert_eq!(rt; ran.out.as_slice(), b"refused 3 BadRow\n".as_slice());
-    Ok(())
-}
-
-#[test]
-fn spent_numbers_are_stolen(rt: HostRuntime) -> Result<(), Fail> {
-    let plan = Plan::built_in(rt.alloc())?;
-    let mut session = Session::spent(rt.alloc(), &plan);
-    let mut cells = Vec::new(rt.alloc());
-    cells.push(Value::Int(1))?;
-    let refused = session.insert(rt.alloc(), "nope", Row::new(cells));
-    assert_eq!(rt; refused, Err(Refused::Stolen));
     Ok(())
 }
 
@@ -255,7 +277,14 @@ fn an_output_that_fails(rt: HostRuntime) -> Result<(), Fail> {
         };
         let mut err = Vec::with_capacity(rt.alloc(), 256)?;
         let mut out = Failing { writes };
-        let status = command(rt.alloc(), words.as_slice(), &mut texts, &mut out, &mut err);
+        let status = command(
+            rt,
+            rt.alloc(),
+            words.as_slice(),
+            &mut texts,
+            &mut out,
+            &mut err,
+        );
         if err.as_slice() == b"refused 1 NoMemory\n".as_slice() {
             return Err(AllocError.into());
         }
@@ -279,9 +308,16 @@ fn an_error_output_that_fails_leaves_the_status(rt: HostRuntime) -> Result<(), F
     };
     let mut out = Failing { writes: 0 };
     let mut err = Failing { writes: 0 };
-    let status = command(rt.alloc(), words.as_slice(), &mut texts, &mut out, &mut err);
+    let status = command(
+        rt,
+        rt.alloc(),
+        words.as_slice(),
+        &mut texts,
+        &mut out,
+        &mut err,
+    );
     assert_eq!(rt; status, 1);
-    let status = command(rt.alloc(), &[], &mut texts, &mut out, &mut err);
+    let status = command(rt, rt.alloc(), &[], &mut texts, &mut out, &mut err);
     assert_eq!(rt; status, 2);
     Ok(())
 }
@@ -291,7 +327,7 @@ fn an_error_output_that_fails_leaves_the_status(rt: HostRuntime) -> Result<(), F
 // accepted again.
 #[test]
 fn accepted_lines_stand_where_memory_is_refused(rt: HostRuntime) {
-    let Ok(ran) = run_words(rt.alloc(), &["run", "built-in", "script"], WORKED) else {
+    let Ok(ran) = run_words(rt, &["run", "built-in", "script"], WORKED) else {
         return;
     };
     assert!(rt; ran.status < 2);

@@ -2,13 +2,14 @@
 use Rattle.std.proofs.Common.{◌≡◌, ℕ, ◌+◌, ◌<◌, inl, inr, List, [], ◌∷◌, ◌++◌, length, Option, Some, None, refl, ap, sym, subst, ◌∙◌, arith, append_assoc}
 use Rattle.std.proofs.lemmas.List.{append-nil, length-append}
 use Rattle.script.specs.Words.{IsLine}
-use Rattle.script.specs.Commands.{Action, insert, Asks}
+use Rattle.script.specs.Commands.{Action, insert, fence, Asks}
 use Rattle.script.specs.Scripts.{IsComment, Says, Numbered, call_at, IsScript, IsFault, IsFirstFault}
 use Rattle.script.proofs.Scan.{line_once}
 
 -- no words ask for nothing
 asks_some : (action : Action) → Asks [] action → ⊥
 asks_some (insert table cells) a = let h = a.0 in cc
+asks_some fence a = cc a
 
 -- the same words ask for one action
 asks_once : (words : List (List ℕ)) (a b : Action) → Asks words a → Asks words b → a ≡ b
@@ -18,6 +19,9 @@ asks_once words (insert t xs) (insert u ys) a b =
     let same_table : t ≡ u = cc in
     let same_cells : xs ≡ ys = cc in
     ap (λ x. insert x xs) same_table ∙ ap (insert u) same_cells
+asks_once words (insert t xs) fence a b = let h = ap length a.0 in let k = ap length b in absurd (omega (arith, h, k))
+asks_once words fence (insert u ys) a b = let h = ap length a in let k = ap length b.0 in absurd (omega (arith, h, k))
+asks_once words fence fence a b = refl
 
 -- a line that is skipped is no call
 skipped_once : (line : List ℕ) (action : Action) → Says line None → Says line (Some action) → ⊥

@@ -7,6 +7,8 @@ ghost use Rattle.script.specs.Commands.{Action, action_of, Asks};
 pub enum Command {
     /// `insert TABLE CELL..`: a row, of at least one cell, for the table.
     Insert { table: String, cells: Vec<String> },
+    /// `fence`: the session's floors raised to what it has seen.
+    Fence,
 }
 
 impl Command {
@@ -19,6 +21,7 @@ impl Command {
         let name = words.remove(0);
         match name.as_str() {
             "insert" => Command::insert(words),
+            "fence" if words.is_empty() => Some(Command::Fence),
             _ => None,
         }
     }

@@ -70,12 +70,14 @@ get_after (x ∷ xs) y ys = get_after xs y ys
 
 each_source_of : (p : Layout) (before bs : List ℕ) → sources p ≡ before ++ bs → Each (IsSource p) bs
 each_source_of p before [] is = tt
-each_source_of p before (b ∷ bs) is =
-    (record {
-      source = length before;
-      there = let n = ap length is in omega (arith, n, length-append before (b ∷ bs));
-      base = ap (λ (l : List ℕ). slice_index_or l (length before) 0) is ∙ get_after before b bs;
-    }, each_source_of p (before ++ b ∷ []) bs (is ∙ sym (append_assoc before (b ∷ []) bs)))
+each_source_of p before (b ∷ bs) is = (
+  record {
+    source = length before;
+    there = let n = ap length is in omega (arith, n, length-append before (b ∷ bs));
+    base = ap (λ (l : List ℕ). slice_index_or l (length before) 0) is ∙ get_after before b bs;
+  },
+  each_source_of p (before ++ b ∷ []) bs (is ∙ sym (append_assoc before (b ∷ []) bs)),
+)
 
 pub own_written : (p : Layout) (c : Caller) (h : List Item) → IsCaller p c → IsPrefix c.seen h → Each (IsOwn p h c.session) (own_places p c.accepted)
 own_written p c h x grown = each_flat (IsSource p) (IsOwn p h c.session) (λ b. place_of b (accepted_at c.accepted b)) (λ b at. step b at (accepted_at c.accepted b) refl) (sources p) (each_source_of p [] (sources p) refl)

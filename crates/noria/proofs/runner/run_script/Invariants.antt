@@ -1,0 +1,5 @@
+use Rattle.noria.proofs.runner.run_script.Given as goal
+
+-- the book that was just opened
+abbrev pub ghosts-run_calls : goal.ghosts-run_calls
+ghosts-run_calls g a = record { book = a.opened.book; plan = a.opened.plan; sessions = a.opened.sessions }
