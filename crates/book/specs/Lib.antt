@@ -6,7 +6,6 @@ pub mod Histories
 pub mod Cuts
 pub mod Refusals
 pub mod Legal
-pub mod Books
 pub mod Words
 pub mod Pages
 pub mod Fronts

@@ -1,91 +1,144 @@
-//! A book keeps the history of one object.
-ghost use Rattle.std.specs.Prelude.{◌≡◌, ◌++◌, ◌∷◌, [], OnOk, OnErr, IsOkUnless};
-ghost use Rattle.book.specs.Entries.{change_of};
-ghost use Rattle.book.specs.Histories.{write};
-ghost use Rattle.book.specs.Legal.{AllowsWrite, IsLegal, most_sessions};
+//! A book whose history stands in words that all threads share.
+ghost use Rattle.std.specs.Prelude.{◌≡◌, ◌+◌, ◌<◌, ◌≤◌, [], IfOk, slice_index_or};
+ghost use Rattle.book.specs.Pages.{words_of, word_named};
+ghost use Rattle.book.specs.Places.{base_count};
 
-use crate::entry::Entry;
+use crate::front::Front;
+use crate::law::{Law, LogPage, Naming};
+use crate::places::base_count;
+use logbook::{Opening, Pens, Seen, Start, Word};
 use plan::plan::Plan;
-use row::refused::Refused;
-use std::alloc::Global;
-use std::marker::Model;
+use std::alloc::{AllocError, Global};
+use std::marker::{Model, PhantomData};
 
-/// A write item: who wrote, under which number, the base shard's number, and the entry.
+// The first page: the plan, and how many of the words are the sessions'.
+struct First;
+
+impl Opening<Plan, LogPage> for First {
+    ghost use Rattle.std.specs.Prelude.{◌-◌, [], ◌∷◌};
+    ghost use Rattle.book.specs.Pages.{opens};
+    ghost use Rattle.book.specs.Places.{base_count};
+
+    ghost log = { λ count plan. opens plan (count - base_count plan) ∷ [] };
+}
+
+/// A book with no item, which has no name yet.
 #[derive(Drop)]
-struct Written {
-    session: u64,
-    number: u64,
-    base: usize,
-    entry: Entry,
+pub struct Opened {
+    words: Vec<Word<LogPage, u64, Law>>,
+    bases: usize,
+    sessions: usize,
+    seen: Seen<LogPage, u64, Law>,
 }
 
-impl Model for Written {
-    ghost use Rattle.book.specs.Entries.{change_of};
-    ghost use Rattle.book.specs.Histories.{Item, write};
+impl Model for Opened {
+    ghost use Rattle.std.specs.Prelude.{◌≡◌, ◌+◌, ◌<◌, [], ◌∷◌};
+    ghost use Rattle.book.specs.Pages.{Opened as OpenedView, opens, plan_on, words_of};
+    ghost use Rattle.book.specs.Places.{base_count};
 
-    ghost Value = { Item };
+    ghost Value = { OpenedView };
 
-    ghost view = { λ w. write w.session w.number w.base (change_of w.entry) };
+    ghost view = { λ o. record { book = o.seen.book; plan = plan_on o.seen.log; sessions = o.sessions } };
+
+    ghost invariant = { λ o. (o.words.items ≡ words_of o.seen.book (o.bases + o.sessions)) × (o.bases ≡ base_count (plan_on o.seen.log)) × (o.bases + o.sessions < 100) × (o.seen.log ≡ opens (plan_on o.seen.log) o.sessions ∷ []) };
 }
 
-/// The history of one object, as a list. By its type it is legal for the plan that opened it.
+/// The words that all threads share: one for each base shard, then one for each session.
 #[derive(Drop)]
-pub struct Book<'p> {
-    plan: &'p Plan,
-    items: Vec<Written>,
+pub struct Book<J: Naming> {
+    words: Vec<Word<LogPage, u64, Law>>,
+    bases: usize,
+    sessions: usize,
+    of: PhantomData<J>,
 }
 
-impl<'p> Model for Book<'p> {
-    ghost use Rattle.book.specs.Books.{Kept};
-    ghost use Rattle.book.specs.Legal.{IsLegal, most_sessions};
+impl<J: Naming> Model for Book<J> {
+    ghost use Rattle.std.specs.Prelude.{◌≡◌, ◌+◌, ◌<◌, ℕ};
+    ghost use Rattle.book.specs.Pages.{words_of};
+    ghost use Rattle.book.specs.Places.{base_count};
 
-    ghost Value = { Kept };
+    ghost Value = { ℕ };
 
-    ghost view = { λ b. record { plan = b.plan.now; history = b.items.items } };
+    ghost view = { λ b. b.bases + b.sessions };
 
-    ghost invariant = { λ b. IsLegal b.plan.now most_sessions b.items.items };
+    ghost invariant = { λ b. (b.words.items ≡ words_of J.book (b.bases + b.sessions)) × (b.bases ≡ base_count J.plan) × (b.bases + b.sessions < 100) × (b.sessions ≡ J.sessions) };
 }
 
-impl<'p> Book<'p> {
-    /// A book of this plan with no item. Takes no memory.
-    pub fn open(alloc: Global, plan: &'p Plan) -> Book<'p>
-        ensures { result ≡ record { plan = plan.now; history = [] } }
+impl Opened {
+    /// A book of this plan for so many sessions, at most 16. Refused for want of memory alone.
+    pub fn new(alloc: Global, plan: &Plan, sessions: usize) -> Result<Opened, AllocError>
+        requires few { sessions < 17 }
+        ensures { IfOk result (λ o. (o.plan ≡ plan.now) × (o.sessions ≡ sessions)) }
     {
-        Book {
-            plan,
-            items: Vec::new(alloc),
-        }
+        let bases = base_count(plan);
+        let count = bases + sessions;
+        let (seen, mut pens) = Seen::open_row::<Plan, First>(plan, Start::alone(), count);
+        let words = words(alloc, &mut pens, count)?;
+        Ok(Opened {
+            words,
+            bases,
+            sessions,
+            seen,
+        })
     }
 
-    /// The plan that opened the book.
-    pub fn plan(&self) -> &'p Plan
-        ensures { result.now ≡ self.now.plan }
+    /// The book under a name, and a front of a base shard that has seen nothing.
+    pub fn named<J: Naming>(self, base: usize) -> (Book<J>, Front<J>)
+        requires book { self.book ≡ J.book }
+        requires plan { self.plan ≡ J.plan }
+        requires sessions { self.sessions ≡ J.sessions }
+        requires base { base < base_count J.plan }
+        ensures { result.1 ≡ record { base = base; len = 0; seen = [] } }
     {
-        self.plan
+        let Opened {
+            words,
+            bases,
+            sessions,
+            seen,
+        } = self;
+        (
+            Book {
+                words,
+                bases,
+                sessions,
+                of: PhantomData,
+            },
+            Front::first(base, seen),
+        )
+    }
+}
+
+fn words(
+    alloc: Global,
+    pens: &mut Pens,
+    count: usize,
+) -> Result<Vec<Word<LogPage, u64, Law>>, AllocError>
+    requires next { pens.old.next ≡ 0 }
+    requires left { pens.old.left ≡ count }
+    ensures { IfOk result (λ v. v.items ≡ words_of pens.old.book count) }
+{
+    let mut words = Vec::new(alloc);
+    for _key in 0..count {
+        let mut pen = pens.take();
+        words.push(Word::tracked(0, &mut pen))?;
+    }
+    Ok(words)
+}
+
+impl<J: Naming> Book<J> {
+    /// How many base shards there are.
+    pub fn bases(&self) -> usize
+        ensures bases { result ≡ base_count J.plan }
+        ensures few { base_count J.plan + J.sessions < 100 }
+    {
+        self.bases
     }
 
-    /// Adds a write item at the end, and with it the entry at the end of the log of base shard
-    /// `base`. Want of memory is `NoMemory` and adds nothing. Costs a push to a vector.
-    pub fn append(
-        &mut self,
-        session: u64,
-        number: u64,
-        base: usize,
-        entry: Entry,
-    ) -> Result<(), Refused>
-        requires { AllowsWrite self.old.plan self.old.history session number base (change_of entry) }
-        ensures added { OnOk result (self.new.history ≡ self.old.history ++ write session number base (change_of entry) ∷ []) }
-        ensures refused { OnErr result (self.new.history ≡ self.old.history) }
-        ensures only { IsOkUnless result Refused.NoMemory }
-        ensures plan { self.new.plan ≡ self.old.plan }
-        ensures legal { IsLegal self.new.plan most_sessions self.new.history }
+    // The word of this number.
+    pub(crate) fn word(&self, key: usize) -> &Word<LogPage, u64, Law>
+        requires { key < base_count J.plan + J.sessions }
+        ensures { result.now ≡ word_named J.book key }
     {
-        self.items.push(Written {
-            session,
-            number,
-            base,
-            entry,
-        })?;
-        Ok(())
+        &self.words[key]
     }
 }

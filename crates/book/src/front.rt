@@ -11,10 +11,10 @@ ghost use Rattle.book.specs.Logs.{fits, key_of, lawful};
 ghost use Rattle.book.specs.Pages.{opens, IsLogOf, history_of};
 ghost use Rattle.book.specs.Places.{base_count, layout_of, shard_of};
 
+use crate::book::Book;
 use crate::entry::Entry;
 use crate::law::{Add, Law, LogPage, Naming};
 use crate::part::Part;
-use crate::shared::SharedBook;
 use crate::step::{learn, look_at, try_add};
 use logbook::{Plain, Seen};
 use std::marker::{Model, PhantomData};
@@ -128,7 +128,7 @@ impl<J: Naming> Front<J> {
     }
 
     /// Sees the log as it is, and says how long it is. The front stays.
-    pub fn look(&mut self, book: &SharedBook<J>) -> u64
+    pub fn look(&mut self, book: &Book<J>) -> u64
         ensures base { self.new.base ≡ self.old.base }
         ensures len { self.new.len ≡ self.old.len }
         ensures seen { IsPrefix self.old.seen self.new.seen }
@@ -152,7 +152,7 @@ impl<J: Naming> Front<J> {
     }
 
     /// Adds an entry at the end of the log, and says whether it did. It did not where the log has moved.
-    pub fn append(&mut self, book: &SharedBook<J>, session: u64, number: u64, entry: &Entry) -> bool
+    pub fn append(&mut self, book: &Book<J>, session: u64, number: u64, entry: &Entry) -> bool
         requires fits { fits (layout_of J.plan self.old.base) (change_of entry.now) ≡ true }
         requires shard { shard_of J.plan self.old.base ≡ shard (key_of (layout_of J.plan self.old.base).key (change_of entry.now)) (layout_of J.plan self.old.base).shards }
         requires lawful { lawful (layout_of J.plan self.old.base).key (entries self.old) (change_of entry.now) ≡ true }

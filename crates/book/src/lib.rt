@@ -11,7 +11,6 @@ pub mod part;
 pub mod places;
 pub mod reply;
 pub mod session;
-pub mod shared;
 mod step;
 #[cfg(test)]
 mod tests;

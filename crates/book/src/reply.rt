@@ -11,11 +11,11 @@ ghost use Rattle.book.specs.Logs.{fits, key_of, lawful};
 ghost use Rattle.book.specs.Places.{layout_of, shard_of};
 ghost use Rattle.book.specs.Replies.{WrittenView, IsAfter, IsWhole, longer};
 
+use crate::book::Book;
 use crate::entry::Entry;
 use crate::front::Front;
 use crate::law::{Law, LogPage, Naming};
 use crate::part::Part;
-use crate::shared::SharedBook;
 use crate::step::{learn, look_at};
 use logbook::Seen;
 use std::marker::{Model, PhantomData};
@@ -68,7 +68,7 @@ impl<J: Naming> Front<J> {
     /// Appends, and gives the reply; or the entry back where the log has moved.
     pub fn write(
         &mut self,
-        book: &SharedBook<J>,
+        book: &Book<J>,
         session: u64,
         number: u64,
         entry: Entry,
@@ -97,7 +97,7 @@ impl<J: Naming> Front<J> {
     }
 
     /// Sees the log as it is, and takes all of it.
-    pub fn catch_up(&mut self, book: &SharedBook<J>)
+    pub fn catch_up(&mut self, book: &Book<J>)
         ensures base { self.new.base ≡ self.old.base }
         ensures seen { IsPrefix self.old.seen self.new.seen }
         ensures whole { IsWhole self.new }

@@ -10,12 +10,12 @@ ghost use Rattle.book.specs.Legal.{IsOwn, IsPast, IsLegal, EachShard};
 ghost use Rattle.book.specs.Queries.{answer as answer_of};
 ghost use Rattle.book.specs.Sessions.{fronts, with_floor, places_of, IsAnswered, IsStolen};
 
+use crate::book::Book;
 use crate::cut::{Cut, Cuts, Lengths, Place};
 use crate::floors::Floors;
 use crate::front::Front;
 use crate::law::{Add, Law, LogPage, Naming};
 use crate::part::Part;
-use crate::shared::SharedBook;
 use crate::step::{learn, try_add};
 use logbook::{Plain, Seen};
 use plan::plan::Plan;
@@ -157,7 +157,7 @@ impl<J: Naming> SessionWord<J> {
     /// Answers a read over a cut, and says whether it did. It did not where the session's word has moved.
     pub fn answer(
         &mut self,
-        book: &SharedBook<J>,
+        book: &Book<J>,
         view: usize,
         shard: usize,
         key: &Value,
@@ -199,7 +199,7 @@ impl<J: Naming> SessionWord<J> {
     }
 
     /// Ends a fence with a cut for each shard of each view, and says whether it did. It did not where the session's word has moved.
-    pub fn fence(&mut self, book: &SharedBook<J>, own: &Vec<Place>, cuts: Cuts<J>) -> bool
+    pub fn fence(&mut self, book: &Book<J>, own: &Vec<Place>, cuts: Cuts<J>) -> bool
         requires floors { EachShard J.plan (λ v j. IsAtMost (floor_at self.old.floors v j) (floor_at cuts.floors v j)) }
         requires past { EachShard J.plan (λ v j. Each (IsPast J.plan (floor_at cuts.floors v j)) (places_of own.now.items)) }
         requires own { Each (IsOwn J.plan self.old.seen self.old.session) (places_of own.now.items) }

@@ -5,13 +5,13 @@ ghost use Rattle.book.specs.Pages.{IsLogOf, IsAsk, IsTry, history_of};
 ghost use Rattle.book.specs.Places.{base_count};
 ghost use Rattle.book.specs.Words.{count_at};
 
+use crate::book::Book;
 use crate::law::{Add, Law, LogPage, Look, Naming, Nothing};
-use crate::shared::SharedBook;
 use logbook::{Offer, Plain, Seen};
 
 /// One exchange on one word: it adds the item that is asked for, or finds that the word has moved.
 pub(crate) fn try_add<J: Naming, X, M: Plain<X, LogPage, u64>>(
-    book: &SharedBook<J>,
+    book: &Book<J>,
     key: usize,
     old: u64,
     seen: &mut Seen<LogPage, u64, Law>,
@@ -34,7 +34,7 @@ pub(crate) fn try_add<J: Naming, X, M: Plain<X, LogPage, u64>>(
 
 /// One load of one word.
 pub(crate) fn look_at<J: Naming>(
-    book: &SharedBook<J>,
+    book: &Book<J>,
     key: usize,
     seen: &mut Seen<LogPage, u64, Law>,
 ) -> u64

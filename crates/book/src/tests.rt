@@ -3,11 +3,10 @@ ghost use Rattle.std.specs.Prelude.{◌≡◌, [], ◌∷◌, IfOk, codes, pos};
 ghost use Rattle.row.specs.Cells.{int, text};
 ghost use Rattle.plan.specs.Recipes.{notes_plan};
 
-use crate::book::Book;
+use crate::book::{Book, Opened};
 use crate::entry::Entry;
 use crate::front::Front;
 use crate::law::Naming;
-use crate::shared::{Opened, SharedBook};
 use plan::plan::Plan;
 use row::row::Row;
 use row::value::Value;
@@ -53,14 +52,6 @@ fn copies_are_equal(rt: HostRuntime) -> Result<(), Fail> {
 }
 
 #[test]
-fn a_book_opens_on_its_plan(rt: HostRuntime) -> Result<(), Fail> {
-    let plan = Plan::built_in(rt.alloc())?;
-    let book = Book::open(rt.alloc(), &plan);
-    assert_eq!(rt; book.plan().tables(), 1);
-    Ok(())
-}
-
-#[test]
 fn one_of_two_appends_is_taken(rt: HostRuntime) -> Result<(), Fail> {
     let plan = Plan::built_in(rt.alloc())?;
     let opened = Opened::new(rt.alloc(), &plan, 2)?;
@@ -86,12 +77,7 @@ fn appended_by_two<J: Naming, R: Abort + AllocGlobal>(rt: &R, opened: Opened) ->
 }
 
 // Appends note 1 to an empty front of the only shard.
-fn append_first<J: Naming>(
-    book: &SharedBook<J>,
-    mut front: Front<J>,
-    session: u64,
-    row: Row,
-) -> bool
+fn append_first<J: Naming>(book: &Book<J>, mut front: Front<J>, session: u64, row: Row) -> bool
     requires notes { J.plan ≡ notes_plan }
     requires front { front ≡ record { base = 0; len = 0; seen = [] } }
     requires row { row ≡ int (pos 1) ∷ int (pos 7) ∷ text (codes "a") ∷ [] }

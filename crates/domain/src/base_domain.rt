@@ -14,7 +14,7 @@ use book::front::Front;
 use book::law::Naming;
 use book::part::Part;
 use book::places::base_at;
-use book::shared::SharedBook;
+use book::book::Book;
 use plan::plan::Plan;
 use row::refused::Refused;
 use std::alloc::{AllocError, Global};
@@ -112,7 +112,7 @@ impl<J: Naming> BaseDomain<J> {
     pub fn receive(
         &mut self,
         alloc: Global,
-        book: &SharedBook<J>,
+        book: &Book<J>,
         write: Write<J>,
     ) -> Option<Reply<J>>
         requires base { write.base ≡ self.old.front.base }
@@ -167,7 +167,7 @@ impl<J: Naming> BaseDomain<J> {
     }
 
     // Answers a write that the log refuses, after a look at it.
-    fn refuse(&mut self, book: &SharedBook<J>, write: Write<J>, refused: Refused) -> Declined<J>
+    fn refuse(&mut self, book: &Book<J>, write: Write<J>, refused: Refused) -> Declined<J>
         requires base { write.base ≡ self.old.front.base }
         requires why { refusal_at J.plan self.old.front write.entry ≡ Some refused }
         requires rises { slice_index_or self.old.next write.session 0 ≤ write.number }
@@ -197,7 +197,7 @@ impl<J: Naming> BaseDomain<J> {
     }
 
     // Appends the entry of a write that the log allows, all room made before.
-    fn accept(&mut self, alloc: Global, book: &SharedBook<J>, write: Write<J>) -> Reply<J>
+    fn accept(&mut self, alloc: Global, book: &Book<J>, write: Write<J>) -> Reply<J>
         requires base { write.base ≡ self.old.front.base }
         requires free { refusal_at J.plan self.old.front write.entry ≡ None }
         requires place { write.session < length self.old.next }

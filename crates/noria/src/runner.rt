@@ -4,7 +4,7 @@ ghost use Rattle.std.specs.Prelude.{◌≡◌};
 use crate::fault::Fault;
 use crate::texts::Texts;
 use book::law::Naming;
-use book::shared::Opened;
+use book::book::Opened;
 use plan::kinds::Kind;
 use plan::plan::Plan;
 use row::refused::Refused;

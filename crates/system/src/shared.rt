@@ -4,10 +4,10 @@ ghost use Rattle.row.specs.Bags.{Each};
 ghost use Rattle.book.specs.Places.{base_count, sources};
 
 use crate::queue::{Full, Mailbox, Queue};
+use book::book::Book;
 use book::front::Front;
 use book::law::Naming;
 use book::places;
-use book::shared::SharedBook;
 use domain::message::{Reply, Write};
 use plan::plan::Plan;
 use row::refused::Refused;
@@ -41,7 +41,7 @@ pub struct Ack<J: Naming> {
 #[derive(Drop)]
 pub struct Shared<J: Naming> {
     plan: Plan,
-    book: SharedBook<J>,
+    book: Book<J>,
     sources: Vec<usize>,
     queues: Vec<Queue<ToBase<J>>>,
     replies: Vec<Mailbox<Reply<J>>>,
@@ -66,7 +66,7 @@ impl<J: Naming> Shared<J> {
     pub fn new(
         alloc: Global,
         plan: Plan,
-        book: SharedBook<J>,
+        book: Book<J>,
         sessions: usize,
     ) -> Result<Shared<J>, AllocError>
         requires plan { plan ≡ J.plan }
@@ -104,7 +104,7 @@ impl<J: Naming> Shared<J> {
     }
 
     /// The book.
-    pub fn book(&self) -> &SharedBook<J> {
+    pub fn book(&self) -> &Book<J> {
         &self.book
     }
 

@@ -1,19 +1,20 @@
 //! The store as it runs: its threads, and the sessions that it gives.
-ghost use Rattle.std.specs.Prelude.{◌≡◌, ◌⊎◌, ◌<◌, ℕ, IfOk, IfErr, length, []};
+ghost use Rattle.std.specs.Prelude.{◌≡◌, ◌⊎◌, ◌+◌, ◌<◌, ℕ, IfOk, OnOk, IfErr, length, []};
 ghost use Rattle.plan.specs.Layouts.{table_at};
 ghost use Rattle.book.specs.Histories.{floor_at};
 
 use crate::session::Session;
 use crate::shared::Shared;
 use crate::worker::base_work;
+use book::book::Opened;
 use book::front::Front;
 use book::law::Naming;
 use book::places::base_at;
-use book::shared::Opened;
 use domain::base_domain::BaseDomain;
 use plan::plan::Plan;
 use row::refused::Refused;
 use std::alloc::Global;
+use std::marker::Model;
 use std::sync::{Arc, Wait};
 use std::thread::{self, JoinHandle, Threads};
 
@@ -28,8 +29,17 @@ pub struct System<J: Naming> {
     sessions: usize,
     given: usize,
     workers: Vec<JoinHandle<()>>,
-    ghost fresh: { start.seen ≡ [] },
-    ghost all: { sessions ≡ J.sessions },
+}
+
+impl<J: Naming> Model for System<J> {
+    ghost use Rattle.std.specs.Prelude.{◌≡◌, ℕ, []};
+
+    ghost Value = { ℕ };
+
+    // How many sessions it has given.
+    ghost view = { λ s. s.given };
+
+    ghost invariant = { λ s. (s.start.seen ≡ []) × (s.sessions ≡ J.sessions) };
 }
 
 impl<J: Naming + 'static> System<J> {
@@ -47,6 +57,7 @@ impl<J: Naming + 'static> System<J> {
         requires sessions { (opened.sessions ≡ J.sessions) × (sessions ≡ J.sessions) }
         requires few { sessions < 17 }
         ensures only { IfErr result (λ e. e ≡ Refused.NoMemory) }
+        ensures none { IfOk result (λ s. s ≡ 0) }
     {
         plan.keeps_profile();
         let first = base_at(&plan, 0, 0);
@@ -75,6 +86,7 @@ impl<J: Naming + 'static> System<J> {
         alloc: Global,
     ) -> Result<(), Refused>
         ensures only { IfErr result (λ e. e ≡ Refused.NoMemory) }
+        ensures given { self.new ≡ self.old }
     {
         for table in 0..self.shared.plan().tables() {
             for shard in 0..self.shared.plan().table(table).shards() {
@@ -94,6 +106,7 @@ impl<J: Naming + 'static> System<J> {
         requires table { table < length J.plan.tables }
         requires shard { shard < (table_at J.plan table).shards }
         ensures only { IfErr result (λ e. e ≡ Refused.NoMemory) }
+        ensures given { self.new ≡ self.old }
     {
         let part = self.start.part();
         let plan = self.shared.plan();
@@ -113,6 +126,9 @@ impl<J: Naming + 'static> System<J> {
     /// given, or `NoMemory`.
     pub fn session(&mut self, alloc: Global) -> Result<Session<J>, Refused>
         ensures only { IfErr result (λ e. (e ≡ Refused.NoSessionLeft) ⊎ (e ≡ Refused.NoMemory)) }
+        ensures next { OnOk result (self.new ≡ self.old + 1) }
+        ensures left { OnOk result (self.old < J.sessions) }
+        ensures session { IfOk result (λ s. s.session ≡ self.old) }
         ensures number { IfOk result (λ s. s.number ≡ 0) }
         ensures seen { IfOk result (λ s. s.seen ≡ []) }
         ensures floors { IfOk result (λ s. (v j : ℕ) → floor_at s.floors v j ≡ []) }

@@ -4,8 +4,8 @@ ghost use Rattle.plan.specs.Recipes.{notes_plan};
 
 use crate::session::{Accepted, Session};
 use crate::system::System;
+use book::book::Opened;
 use book::law::Naming;
-use book::shared::Opened;
 use plan::plan::Plan;
 use row::refused::Refused;
 use row::row::Row;

@@ -1,10 +1,12 @@
 //! The thread of a base shard.
-ghost use Rattle.std.specs.Prelude.{◌≡◌, true, false, IfSome, IfNone};
+ghost use Rattle.std.specs.Prelude.{◌≡◌, ◌≢◌, ◌⊎◌, ◌<◌, ◌≤◌, true, length, slice_index_or, IfSome, IfNone, IfOk, IfErr};
+ghost use Rattle.domain.specs.Bases.{Declines, Takes};
 
 use crate::shared::{Ack, Marker, Shared, ToBase};
+use book::book::Book;
 use book::law::Naming;
 use domain::base_domain::BaseDomain;
-use domain::message::Write;
+use domain::message::{Reply, Write};
 use std::alloc::Global;
 use std::sync::Wait;
 
@@ -21,26 +23,49 @@ pub fn base_work<J: Naming, R: Wait>(
             break;
         };
         match message {
-            ToBase::Write(write) => answer(rt, alloc, shared, &mut domain, write),
+            ToBase::Write(write) => {
+                if let Some(Answer { session, reply }) = answer_of(
+                    alloc,
+                    shared.book(),
+                    &mut domain,
+                    write,
+                ) {
+                    shared.reply(rt, session, reply);
+                }
+            }
             ToBase::Marker(marker) => shared.acknowledge(rt, base, ack_of(&domain, marker)),
         }
     }
 }
 
-// Takes a write of this base shard, and sends the reply to its session.
-fn answer<J: Naming, R: Wait>(
-    rt: &R,
+/// A reply, and the session that waits for it.
+#[derive(Drop)]
+struct Answer<J: Naming> {
+    session: usize,
+    reply: Reply<J>,
+}
+
+// Takes a write: its session, and the reply. None where the write is of another base shard, or its
+// number is not above all of its session in the log.
+fn answer_of<J: Naming>(
     alloc: Global,
-    shared: &Shared<J>,
+    book: &Book<J>,
     domain: &mut BaseDomain<J>,
     write: Write<J>,
-) {
+) -> Option<Answer<J>>
+    ensures session { IfSome result (λ a. a.session ≡ write.session) }
+    ensures accepted { IfSome result (λ a. IfOk a.reply (λ w. Takes J.plan domain.old write w domain.new)) }
+    ensures declined { IfSome result (λ a. IfErr a.reply (λ d. Declines J.plan domain.old write d domain.new)) }
+    ensures ignored { IfNone result (domain.new ≡ domain.old) }
+    ensures late { IfNone result ((write.base ≢ domain.old.front.base) ⊎ (length domain.old.next ≤ write.session) ⊎ (write.number < slice_index_or domain.old.next write.session 0)) }
+{
     if write.base() != domain.base() {
-        return;
+        return None;
     }
     let session = write.session();
-    if let Some(reply) = domain.receive(alloc, shared.book(), write) {
-        shared.reply(rt, session, reply);
+    match domain.receive(alloc, book, write) {
+        Some(reply) => Some(Answer { session, reply }),
+        None => None,
     }
 }
 

@@ -1,7 +1,7 @@
 use Rattle.std.proofs.Common.{◌≡◌, ◌+◌, ◌<◌, ap, ◌∙◌, arith, length, slice_index_or}
 use Rattle.book.specs.Places.{base_count}
 use Rattle.book.proofs.Words.{length_words, word_at}
-use Rattle.book.proofs.shared.SharedBook.word.Goals as goal
+use Rattle.book.proofs.book.Book.word.Goals as goal
 
 pub index-requires : goal.index-requires
 index-requires g c =

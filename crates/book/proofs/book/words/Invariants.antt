@@ -1,6 +1,6 @@
 use Rattle.std.proofs.Common.{◌≡◌, ◌-◌}
 use Rattle.book.specs.Pages.{words_of}
-use Rattle.book.proofs.shared.words.Given as goal
+use Rattle.book.proofs.book.words.Given as goal
 
 abbrev pub invariant-loop-key : goal.invariant-loop-key
 invariant-loop-key l = record {
