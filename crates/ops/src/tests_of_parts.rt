@@ -91,6 +91,40 @@ fn keeps_what_passes(rt: HostRuntime) -> Result<(), Fail> {
     Ok(())
 }
 
+/// What the records of left rows change of the output, of those for which the side's conditions hold.
+fn passed(
+    rt: &impl Abort,
+    alloc: Global,
+    side: &Side,
+    stage: &mut Stage,
+    words: &str,
+) -> Result<String, Fail> {
+    let kept = filter::step(alloc, side, &records(alloc, words)?)?;
+    assert!(rt; stage.takes_left(&kept));
+    let changes = stage.step_left(alloc, &kept)?;
+    written(alloc, &changes)
+}
+
+#[test]
+fn sums_what_passes_by_page(rt: HostRuntime) -> Result<(), Fail> {
+    let alloc = rt.alloc();
+    let side = above(alloc, 1)?;
+    let mut stage = Stage::new(alloc, Shape::Group(Aggregate::Sum(2)), 1, 0);
+    let cases = [
+        ("+1 home 5", "+home 5"),
+        ("+2 home -3", ""),
+        ("+3 home 7", "-home 5;+home 12"),
+        ("-1 home 5", "-home 12;+home 7"),
+        ("-2 home -3;-3 home 7", "-home 7"),
+        ("+4 home 1", "+home 1"),
+    ];
+    for (words, want) in cases {
+        let changes = passed(&rt, alloc, &side, &mut stage, words)?;
+        assert_eq!(rt; changes.as_str(), want, "at {words}");
+    }
+    Ok(())
+}
+
 /// What is made of the row with its partners, and what is made anew with other ones.
 fn parts(
     rt: &impl Abort,
