@@ -49,6 +49,23 @@ fn put(rt: &impl Abort, alloc: Global, index: &mut Index, words: &str) -> Result
     Ok(index.add(alloc, row)?)
 }
 
+/// Takes away one of the row, of which nothing is told.
+fn take(alloc: Global, index: &mut Index, words: &str) -> Result<(), Fail>
+    requires { index.old.told ≡ None }
+    ensures { index.new.told ≡ None }
+{
+    let gone = Record {
+        row: row(alloc, words)?,
+        sign: Sign::Minus,
+    };
+    let there = index.takes(std::slice::from_ref(&gone));
+    if there {
+        Ok(index.subtract(alloc, &gone.row)?)
+    } else {
+        Err("not there".into())
+    }
+}
+
 #[test]
 fn finds_rows_by_a_column(rt: HostRuntime) -> Result<(), Fail> {
     let alloc = rt.alloc();
@@ -64,6 +81,10 @@ fn finds_rows_by_a_column(rt: HostRuntime) -> Result<(), Fail> {
     assert!(rt; index.takes(&records(alloc, "-1 a;-1 a;-3 b;+4 c")?));
     assert!(rt; !index.takes(&records(alloc, "-1 a;-1 a;-1 a")?));
     assert!(rt; !index.takes(&records(alloc, "+1")?));
+    take(alloc, &mut index, "1 a")?;
+    take(alloc, &mut index, "3 b")?;
+    assert_eq!(rt; found(alloc, &index, "a")?.as_str(), "1 a;2 a");
+    assert_eq!(rt; found(alloc, &index, "b")?.as_str(), "");
     Ok(())
 }
 
