@@ -1,5 +1,5 @@
 -- Changes of a bag of rows: signed rows, as a whole.
-use Rattle.std.specs.Prelude.{ℕ, ◌≤◌, List, [], ◌∷◌}
+use Rattle.std.specs.Prelude.{◌≤◌, List, [], ◌∷◌}
 use Rattle.row.specs.Cells.{Cells, row_cmp}
 use Rattle.row.specs.Bags.{times, inserted, removed, sorted, joined}
 use Rattle.row.specs.Changes.{losses}

@@ -4,7 +4,7 @@
 ghost use Rattle.std.specs.Prelude.{◌≡◌, ℕ, [], List, None, Some, OnOk, OnErr, IfOk, IfSome, IfNone, true, false, length, drop, slice_get, slice_set};
 ghost use Rattle.std.specs.Option.{option_copied};
 ghost use Rattle.std.specs.Set.{remove_key};
-ghost use Rattle.partial.specs.States.{State, Kept, state_of, order_of, OthersStay, GoesLast, Hole, is_hole, entry_of, begun, fills, evicted, says_evicted, after_piece, after_change, ChangeFits};
+ghost use Rattle.partial.specs.States.{State, Kept, IsApart, state_of, order_of, OthersStay, GoesLast, Hole, is_hole, entry_of, begun, fills, evicted, says_evicted, after_piece, after_change, ChangeFits};
 ghost use Rattle.partial.specs.Truth.{IsTrueOf, with_part};
 
 use crate::filled::{Filled, Walk};
@@ -62,6 +62,13 @@ impl<K: Eq + Hash + Drop, E: Drop> Partial<K, E> {
         ensures { result ≡ self.now.sources }
     {
         self.sources
+    }
+
+    /// No key is both filled and waiting, which the type keeps. Does nothing: a caller learns it.
+    pub fn keeps_apart(&self)
+        ensures { IsApart K.eq self.now }
+    {
+        let _sources = self.sources;
     }
 
     /// The entry of a filled key, and of no other. Takes no memory. Constant time.

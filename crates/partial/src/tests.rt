@@ -131,6 +131,7 @@ fn take(rt: &impl Abort, alloc: Global, bags: &mut Bags, step: &Step) -> Result<
 fn run(rt: &impl Abort, alloc: Global, sources: usize, steps: &[Step]) -> Result<(), AllocError> {
     let mut bags = Partial::new(alloc, sources)?;
     assert_eq!(rt; bags.sources(), sources);
+    bags.keeps_apart();
     for step in steps {
         take(rt, alloc, &mut bags, step)?;
     }
@@ -205,6 +206,8 @@ fn each_change_counts_once(rt: HostRuntime) -> Result<(), Fail> {
         Step::Piece(7, 0, &[1], false),
         Step::Change(7, 1, 20),
         Step::Change(7, 0, 2),
+        Step::Change(7, 2, 9),
+        Step::Missing(7),
         Step::Piece(7, 1, &[20], true),
         Step::Rows(7, &[1, 2, 20]),
         Step::Change(7, 1, 21),
