@@ -85,9 +85,9 @@ fn calls_of_one<J: Naming + 'static, R: Threads + Wait + Abort + Copy + Drop + S
 }
 
 /// How many rows of its own each of four sessions inserts, and how many that all of them do.
-const OWN: i128 = 1000;
+const OWN: usize = 1000;
 
-const SHARED: i128 = 100;
+const SHARED: usize = 100;
 
 #[test]
 fn four_sessions_at_once(rt: HostRuntime) -> Result<(), Fail> {
