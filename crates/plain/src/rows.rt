@@ -73,8 +73,8 @@ fn updated<'a>(old: &'a Row, key: usize, value: &Value, new: &'a Row) -> &'a Row
     if old.has(key, value) { new } else { old }
 }
 
-/// The row's value in the column, or zero past its end.
-pub(crate) fn cell_or<'a>(row: &'a Row, column: usize, zero: &'a Value) -> &'a Value
+/// The row's value in the column, or zero past its end. Constant time.
+pub fn cell_or<'a>(row: &'a Row, column: usize, zero: &'a Value) -> &'a Value
     requires { datum_of zero.now ≡ int (pos 0) }
     ensures { datum_of result.now ≡ cell_at row.now column }
 {

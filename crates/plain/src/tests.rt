@@ -85,6 +85,22 @@ fn cut(alloc: Global, plan: &Plan, logs: &str, lengths: &str) -> Result<Vec<Line
     Ok(lines)
 }
 
+/// Compares the answer of the view.
+fn reads_view(
+    rt: &impl Abort,
+    alloc: Global,
+    plan: &Plan,
+    lines: &[Line],
+    view: usize,
+    key: &str,
+    want: &str,
+) -> Result<(), Fail> {
+    assert!(rt; are_lines(plan, lines));
+    assert!(rt; view < plan.views());
+    let rows = answer(alloc, plan, lines, view, &value(alloc, key)?)?;
+    shows(rt, alloc, &rows, want)
+}
+
 /// Compares the answer of the first view.
 fn reads(
     rt: &impl Abort,
@@ -94,10 +110,7 @@ fn reads(
     key: &str,
     want: &str,
 ) -> Result<(), Fail> {
-    assert!(rt; are_lines(plan, lines));
-    assert!(rt; 0 < plan.views());
-    let rows = answer(alloc, plan, lines, 0, &value(alloc, key)?)?;
-    shows(rt, alloc, &rows, want)
+    reads_view(rt, alloc, plan, lines, 0, key, want)
 }
 
 fn columns(alloc: Global, words: &str) -> Result<Vec<Column>, Fail> {
@@ -115,6 +128,17 @@ fn table(alloc: Global, name: &str, shards: usize, words: &str) -> Result<Table,
     Ok(Table::new(String::from_str(alloc, name)?, shards, 0, columns))
 }
 
+fn push_view(
+    alloc: Global,
+    views: &mut Vec<ViewPlan>,
+    name: &str,
+    key: usize,
+    shards: usize,
+) -> Result<(), AllocError> {
+    views.push(ViewPlan::new(String::from_str(alloc, name)?, key, shards, 4))?;
+    Ok(())
+}
+
 fn views(
     alloc: Global,
     name: &str,
@@ -122,7 +146,7 @@ fn views(
     shards: usize,
 ) -> Result<Vec<ViewPlan>, AllocError> {
     let mut views = Vec::new(alloc);
-    views.push(ViewPlan::new(String::from_str(alloc, name)?, key, shards, 4))?;
+    push_view(alloc, &mut views, name, key, shards)?;
     Ok(views)
 }
 
@@ -130,8 +154,10 @@ fn no_conditions(alloc: Global, table: usize, key: usize) -> Side {
     Side::new(table, key, Vec::new(alloc))
 }
 
-/// Stories and votes for them, told by their number or their weights, by a column of the story.
-fn voting(alloc: Global, told: Aggregate, key: usize, shards: usize) -> Result<Plan, Fail> {
+/// Stories and votes for them, told by their number or their weights, by author and by title.
+fn voting(alloc: Global, told: Aggregate) -> Result<Plan, Fail> {
+    let mut views = views(alloc, "by_author", 1, 2)?;
+    push_view(alloc, &mut views, "by_title", 2, 1)?;
     let mut tables = Vec::new(alloc);
     tables.push(table(alloc, "stories", 2, "id int,author int,title text")?)?;
     tables.push(table(alloc, "votes", 2, "vid int,story int,weight int")?)?;
@@ -142,7 +168,7 @@ fn voting(alloc: Global, told: Aggregate, key: usize, shards: usize) -> Result<P
         right: Some(no_conditions(alloc, 1, 1)),
         aggregate: Some(told),
         cap: 1024,
-        views: views(alloc, "by_column", key, shards)?,
+        views,
     };
     Ok(Plan::checked(draft).ok_or("no plan")?)
 }
@@ -204,7 +230,7 @@ const VOTED: &str =
 
 /// Reads the votes by author over the first entries of the logs.
 fn votes(rt: &impl Abort, alloc: Global, lengths: &str, key: &str, want: &str) -> Result<(), Fail> {
-    let plan = voting(alloc, Aggregate::Count, 1, 2)?;
+    let plan = voting(alloc, Aggregate::Count)?;
     let lines = cut(alloc, &plan, VOTED, lengths)?;
     reads(rt, alloc, &plan, &lines, key, want)
 }
@@ -228,18 +254,89 @@ fn counts_the_votes_of_a_story(rt: HostRuntime) -> Result<(), Fail> {
 }
 
 #[test]
-fn reads_by_another_column(rt: HostRuntime) -> Result<(), Fail> {
+fn reads_a_second_view(rt: HostRuntime) -> Result<(), Fail> {
     let alloc = rt.alloc();
-    let plan = voting(alloc, Aggregate::Count, 2, 1)?;
+    let plan = voting(alloc, Aggregate::Count)?;
     let lines = cut(alloc, &plan, VOTED, "0,1,1,0")?;
-    reads(&rt, alloc, &plan, &lines, "a", "1 7 a 1\n")?;
-    reads(&rt, alloc, &plan, &lines, "b", "")
+    reads_view(&rt, alloc, &plan, &lines, 1, "a", "1 7 a 1\n")?;
+    reads_view(&rt, alloc, &plan, &lines, 1, "b", "")
+}
+
+/// The same with one shard of each table, fewer columns and one view.
+fn small_voting(alloc: Global) -> Result<Plan, Fail> {
+    let mut tables = Vec::new(alloc);
+    tables.push(table(alloc, "stories", 1, "id int,author int")?)?;
+    tables.push(table(alloc, "votes", 1, "vid int,story int")?)?;
+    let draft = Draft {
+        tables,
+        stages: 2,
+        left: no_conditions(alloc, 0, 0),
+        right: Some(no_conditions(alloc, 1, 1)),
+        aggregate: Some(Aggregate::Count),
+        cap: 1024,
+        views: views(alloc, "by_author", 1, 1)?,
+    };
+    Ok(Plan::checked(draft).ok_or("no plan")?)
+}
+
+/// Reads author 7 where the two stage shards stand at these lengths, after a third vote.
+fn uneven(
+    rt: &impl Abort,
+    alloc: Global,
+    logs: &str,
+    first: &str,
+    second: &str,
+    want: &str,
+) -> Result<(), Fail> {
+    let plan = small_voting(alloc)?;
+    let mut lines = Vec::new(alloc);
+    lines.push(line(alloc, logs, first)?)?;
+    lines.push(line(alloc, logs, second)?)?;
+    reads(rt, alloc, &plan, &lines, "7", want)
+}
+
+#[test]
+fn each_stage_shard_has_its_own_line(rt: HostRuntime) -> Result<(), Fail> {
+    let alloc = rt.alloc();
+    let second = "insert 1 7\ninsert 2 7|insert 10 1\ninsert 11 2\ninsert 12 2";
+    uneven(&rt, alloc, second, "2,2", "2,2", "1 7 1\n2 7 1\n")?;
+    uneven(&rt, alloc, second, "2,3", "2,2", "1 7 1\n2 7 2\n")?;
+    let first = "insert 1 7\ninsert 2 7|insert 10 1\ninsert 11 2\ninsert 12 1";
+    uneven(&rt, alloc, first, "2,2", "2,3", "1 7 2\n2 7 1\n")
+}
+
+/// The first of three notes, of which the last has a space in its text.
+fn three_notes(alloc: Global, length: usize) -> Result<Line, Fail> {
+    let mut entries = Vec::new(alloc);
+    entries.push(entry(alloc, "insert 1 7 a")?)?;
+    entries.push(entry(alloc, "insert 2 8 b")?)?;
+    let mut values = Vec::new(alloc);
+    values.push(Value::Int(3))?;
+    values.push(Value::Int(7))?;
+    values.push(Value::Text(String::from_str(alloc, "c d")?))?;
+    entries.push(Entry::Insert(Row::new(values)))?;
+    entries.truncate(length);
+    let mut fronts = Vec::new(alloc);
+    fronts.push(Front::new(entries))?;
+    Ok(Line::new(fronts))
+}
+
+#[test]
+fn reads_the_built_in_plan(rt: HostRuntime) -> Result<(), Fail> {
+    let alloc = rt.alloc();
+    let plan = Plan::built_in(alloc)?;
+    let mut lines = Vec::new(alloc);
+    lines.push(three_notes(alloc, 0)?)?;
+    reads(&rt, alloc, &plan, &lines, "7", "")?;
+    lines.clear();
+    lines.push(three_notes(alloc, 3)?)?;
+    reads(&rt, alloc, &plan, &lines, "7", "1 7 a\n3 7 \"c d\"\n")
 }
 
 #[test]
 fn sums_past_64_bits(rt: HostRuntime) -> Result<(), Fail> {
     let alloc = rt.alloc();
-    let plan = voting(alloc, Aggregate::Sum(2), 1, 2)?;
+    let plan = voting(alloc, Aggregate::Sum(2))?;
     let logs =
         "insert 2 7 b|insert 1 7 a|insert 10 1 9223372036854775807\ninsert 12 2 -9223372036854775808|insert 11 1 9223372036854775807\ninsert 13 2 -9223372036854775808";
     let lines = cut(alloc, &plan, logs, "1,1,2,2")?;
@@ -301,7 +398,7 @@ fn moves_a_row_between_keys(rt: HostRuntime) -> Result<(), Fail> {
 #[test]
 fn a_stage_shard_has_its_own_rows(rt: HostRuntime) -> Result<(), Fail> {
     let alloc = rt.alloc();
-    let plan = voting(alloc, Aggregate::Count, 1, 2)?;
+    let plan = voting(alloc, Aggregate::Count)?;
     let line = line(alloc, VOTED, "1,1,1,1")?;
     let lefts = left_rows(alloc, &plan, 1, &line)?;
     shows(&rt, alloc, &lefts, "1 7 a\n")?;
@@ -341,6 +438,32 @@ fn refuses_at_a_front(rt: HostRuntime) -> Result<(), Fail> {
 }
 
 #[test]
+fn refuses_at_the_fronts_of_a_run(rt: HostRuntime) -> Result<(), Fail> {
+    let alloc = rt.alloc();
+    let stories = front(alloc, "insert 1 7 a", 1)?;
+    let again = entry(alloc, "insert 1 9 x")?;
+    assert_eq!(rt;
+        refusal(alloc, 0, 9, &stories, &again)?,
+        Some(Refused::Duplicate)
+    );
+    let next = entry(alloc, "insert 3 8 c")?;
+    assert!(rt; refusal(alloc, 0, 9, &stories, &next)?.is_none());
+    let votes = front(alloc, "insert 11 1 1", 1)?;
+    let absent = entry(alloc, "delete 99")?;
+    assert_eq!(rt;
+        refusal(alloc, 0, 9, &votes, &absent)?,
+        Some(Refused::Absent)
+    );
+    let notes = front(alloc, "", 0)?;
+    let update = entry(alloc, "update 2 8 b")?;
+    assert_eq!(rt;
+        refusal(alloc, 0, 9, &notes, &update)?,
+        Some(Refused::Absent)
+    );
+    Ok(())
+}
+
+#[test]
 fn a_front_has_its_rows(rt: HostRuntime) -> Result<(), Fail> {
     let alloc = rt.alloc();
     let front = front(alloc, "insert 1 a\ninsert 2 b\nupdate 1 c\ndelete 2", 3)?;
@@ -358,7 +481,7 @@ fn fits(rt: &impl Abort, alloc: Global, plan: &Plan, logs: &str, want: bool) -> 
 #[test]
 fn a_line_fits_its_tables(rt: HostRuntime) -> Result<(), Fail> {
     let alloc = rt.alloc();
-    let plan = voting(alloc, Aggregate::Sum(2), 1, 2)?;
+    let plan = voting(alloc, Aggregate::Sum(2))?;
     fits(
         &rt,
         alloc,
