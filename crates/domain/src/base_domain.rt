@@ -9,12 +9,12 @@ ghost use Rattle.domain.specs.Bases.{Declines, Domain, IsAnswer, Stops, Takes, r
 
 use crate::message::{Declined, Reply, Write};
 use base::shard::BaseShard;
+use book::book::Book;
 use book::entry::Entry;
 use book::front::Front;
 use book::law::Naming;
 use book::part::Part;
 use book::places::base_at;
-use book::book::Book;
 use plan::plan::Plan;
 use row::refused::Refused;
 use std::alloc::{AllocError, Global};
@@ -109,13 +109,9 @@ impl<J: Naming> BaseDomain<J> {
     /// `Stopped` where the domain had stopped or the log has moved; where it has moved the domain
     /// stops. What is not accepted leaves the rest as it was. Cost: one look-up by the key, one
     /// copy of the entry.
-    pub fn receive(
-        &mut self,
-        alloc: Global,
-        book: &Book<J>,
-        write: Write<J>,
-    ) -> Option<Reply<J>>
+    pub fn receive(&mut self, alloc: Global, book: &Book<J>, write: Write<J>) -> Option<Reply<J>>
         requires base { write.base ≡ self.old.front.base }
+        ensures base { self.new.front.base ≡ self.old.front.base }
         ensures ignored { IfNone result (self.new ≡ self.old) }
         ensures late { IfNone result ((length self.old.next ≤ write.session) ⊎ (write.number < slice_index_or self.old.next write.session 0)) }
         ensures accepted { IfSome result (λ r. IfOk r (λ w. Takes J.plan self.old write w self.new)) }
@@ -171,6 +167,7 @@ impl<J: Naming> BaseDomain<J> {
         requires base { write.base ≡ self.old.front.base }
         requires why { refusal_at J.plan self.old.front write.entry ≡ Some refused }
         requires rises { slice_index_or self.old.next write.session 0 ≤ write.number }
+        ensures base { self.new.front.base ≡ self.old.front.base }
         ensures answer { IsAnswer write result }
         ensures outcome { ((result.refused ≡ refused) × (self.new ≡ self.old)) ⊎ Stops self.old result self.new }
     {
@@ -203,6 +200,7 @@ impl<J: Naming> BaseDomain<J> {
         requires place { write.session < length self.old.next }
         requires rises { slice_index_or self.old.next write.session 0 ≤ write.number }
         requires running { self.old.stopped ≡ false }
+        ensures base { self.new.front.base ≡ self.old.front.base }
         ensures accepted { IfOk result (λ w. Takes J.plan self.old write w self.new) }
         ensures answer { IfErr result (λ d. IsAnswer write d) }
         ensures declined { IfErr result (λ d. ((d.refused ≡ Refused.NoMemory) × (self.new ≡ self.old)) ⊎ Stops self.old d self.new) }
