@@ -5,12 +5,11 @@ use mathlib.Core.List.{IsPrefix}
 use Rattle.row.specs.Bags.{Each}
 use Rattle.row.proofs.BagLemmas.{Each-weaker}
 use Rattle.plan.specs.Layouts.{ViewLayout, Layout, no_view, view_at}
-use Rattle.book.specs.Histories.{Item, Lengths, len_at, Floors, floor_at, log_of}
-use Rattle.book.specs.Pages.{Page, history_of}
+use Rattle.book.specs.Histories.{Item, Lengths, len_at, floor_at, log_of}
 use Rattle.book.specs.Places.{sources, source_at}
 use Rattle.book.specs.Cuts.{IsWithin}
 use Rattle.book.specs.Fronts.{FrontView, IsReached}
-use Rattle.book.specs.Sessions.{FloorsView, IsTable, AreWithin, even_floors}
+use Rattle.book.specs.Sessions.{AreWithin, even_floors}
 use Rattle.book.proofs.Prefixes.{prefix_self, prefix_trans, prefix_length}
 use Rattle.book.proofs.Later.{log_more}
 

@@ -1,5 +1,5 @@
 -- Numbers of calls, and what a domain's check says of its log.
-use Rattle.std.proofs.Common.{◌≡◌, ℕ, zero, suc, ◌+◌, ◌<◌, ◌≤◌, ◌==◌, nat_le, Bool, true, false, cond, List, [], ◌∷◌, ◌++◌, length, take, take_all, slice_index_or, slice_set, Option, Some, None, Result, Ok, Err, IfErr, refl, ap, sym, ◌∙◌, subst, arith, ◌⊎◌, inl, inr}
+use Rattle.std.proofs.Common.{◌≡◌, ℕ, ◌+◌, ◌<◌, ◌≤◌, ◌==◌, nat_le, Bool, true, false, cond, List, [], ◌∷◌, ◌++◌, length, take_all, slice_index_or, slice_set, Option, Some, None, Result, Ok, Err, IfErr, refl, ap, sym, ◌∙◌, subst, arith, ◌⊎◌, inl, inr}
 use Rattle.std.proofs.lemmas.Bool.Decides.{nat_tests}
 use Rattle.std.proofs.lemmas.List.{get_or-set_other}
 use Rattle.std.proofs.lemmas.Grind.{get_or-set_at}
@@ -7,7 +7,7 @@ use Rattle.row.specs.Bags.{Each}
 use Rattle.row.specs.Cells.{cell_at}
 use Rattle.row.proofs.BagLemmas.{Each-weaker}
 use Rattle.row.specs.declared.refused.Refused.{Refused}
-use Rattle.row.specs.declared.refused.Refused.TheVariants.{NoMemory, Duplicate, Absent, LogFull, Stopped}
+use Rattle.row.specs.declared.refused.Refused.TheVariants.{NoMemory, Duplicate, Absent, LogFull}
 use Rattle.plan.specs.Layouts.{Layout}
 use Rattle.book.specs.Logs.{Change, inserts, deletes, updates, lawful, is_held, rows_of}
 use Rattle.book.specs.Places.{layout_of}
@@ -19,7 +19,7 @@ use Rattle.book.proofs.Fronts.{length_authors}
 use Rattle.base.specs.Shards.{Shard, IsAt, verdict}
 use Rattle.base.proofs.Fronts as stands
 use Rattle.domain.specs.Messages.{WriteView, DeclinedView, IsDecided}
-use Rattle.domain.specs.Bases.{Domain, IsBelow, IsDomain, IsAnswer, Rests, Stops, Declines, refusal_at}
+use Rattle.domain.specs.Bases.{Domain, IsBelow, IsDomain, IsAnswer, Stops, Declines, refusal_at}
 
 -- ---- numbers
 below_of : (next : List ℕ) (s m : ℕ) → slice_index_or next s 0 ≤ m → (a : Author) → IsBelow next a → a.session ≡ s → a.number < m

@@ -1,5 +1,5 @@
 -- Sessions that go on to a longer history.
-use Rattle.std.proofs.Common.{◌≡◌, ◌≢◌, ◌⊎◌, ℕ, zero, suc, ◌+◌, ◌<◌, ◌≤◌, ◌==◌, Bool, true, false, List, [], ◌∷◌, ◌++◌, length, map, replicate, slice_get, slice_index_or, slice_set, Option, Some, None, refl, ap, sym, ◌∙◌, subst, arith, append_assoc, length-append, inl, inr}
+use Rattle.std.proofs.Common.{◌≡◌, ◌≢◌, ◌⊎◌, ℕ, zero, suc, ◌+◌, ◌<◌, ◌≤◌, ◌==◌, Bool, true, false, List, [], ◌∷◌, ◌++◌, length, map, replicate, slice_get, slice_index_or, slice_set, Option, Some, None, refl, ap, sym, ◌∙◌, subst, arith, append_assoc, inl, inr}
 use Rattle.std.proofs.lemmas.Bool.Decides.{eqb_tells}
 use Rattle.std.proofs.lemmas.Option.{slice_get_within}
 use Rattle.std.proofs.lemmas.List.{get_or-set_other, length-set, length-replicate}
@@ -10,7 +10,7 @@ use Rattle.plan.specs.Layouts.{Layout, table_named}
 use Rattle.book.specs.Refusals.{write_refusal}
 use Rattle.book.specs.Logs.{Change}
 use Rattle.book.specs.Places.{base_count, sources}
-use Rattle.book.specs.Histories.{Item, write, Author, Lengths, Floors, len_at, floor_at, entry_in, author_in, log_of, authors_of}
+use Rattle.book.specs.Histories.{Item, write, Lengths, Floors, floor_at, entry_in, author_in, log_of, authors_of}
 use Rattle.book.specs.Cuts.{IsAtMost}
 use Rattle.book.specs.Replies.{IsAfter}
 use Rattle.book.proofs.HistoryLaws.{authors_push}
@@ -18,7 +18,7 @@ use Rattle.book.proofs.Prefixes.{prefix_self, prefix_get, prefix_length}
 use Rattle.book.proofs.Fronts.{length_authors}
 use Rattle.book.proofs.Later.{at_most_trans, at_most_none}
 use Rattle.row.specs.declared.refused.Refused.{Refused}
-use Rattle.system.specs.Inserts.{base_of, first_of, stolen_refusal, call_refusal, IsTaken, IsAnswer, IsUntaken, Declines, asked, untaken}
+use Rattle.system.specs.Inserts.{base_of, first_of, stolen_refusal, call_refusal, IsTaken, IsAnswer, IsUntaken, Declines, untaken}
 use Rattle.system.specs.Callers.{Caller, IsWrote, accepted_at, whole_cut, IsCaller}
 
 -- ---- logs of a longer history

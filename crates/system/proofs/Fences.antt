@@ -1,24 +1,23 @@
 -- Fences: their places, their cuts, and the session afterwards.
-use Rattle.std.proofs.Common.{◌≡◌, ◌⊎◌, ℕ, zero, suc, ◌+◌, ◌<◌, ◌≤◌, Bool, true, List, [], ◌∷◌, ◌++◌, length, map, flat_map, replicate, take, take_all, get_or, slice_get, slice_index_or, Option, Some, None, refl, ap, sym, ◌∙◌, subst, arith, append_assoc, length-append}
+use Rattle.std.proofs.Common.{◌≡◌, ℕ, zero, suc, ◌+◌, ◌<◌, ◌≤◌, List, [], ◌∷◌, ◌++◌, length, map, flat_map, replicate, take, get_or, slice_index_or, Option, Some, None, refl, ap, sym, ◌∙◌, subst, arith, append_assoc, length-append}
 use Rattle.std.proofs.lemmas.List.{length-map, take_more, map-append}
 use mathlib.Core.List.{IsPrefix}
 use Rattle.row.specs.Bags.{Each}
 use Rattle.row.proofs.BagLemmas.{Each-weaker}
-use Rattle.row.specs.declared.refused.Refused.{Refused}
-use Rattle.plan.specs.Layouts.{Layout, view_at}
+use Rattle.plan.specs.Layouts.{Layout}
 use Rattle.book.specs.Places.{sources, source_at}
-use Rattle.book.specs.Histories.{Item, fence, Place, Lengths, Floors, len_at, floor_at, log_of, authors_of}
+use Rattle.book.specs.Histories.{Item, fence, Place, Lengths, Floors, len_at, floor_at, log_of}
 use Rattle.book.specs.Cuts.{IsAtMost}
 use Rattle.book.specs.Fronts.{FrontView, IsReached}
 use Rattle.book.specs.Legal.{EachShard, IsOwn, IsPast}
 use Rattle.book.specs.Pages.{IsAdded}
-use Rattle.book.specs.Sessions.{SessionView, own_word, even_floors, IsAnswered, IsStolen}
+use Rattle.book.specs.Sessions.{own_word, even_floors}
 use Rattle.book.proofs.Prefixes.{prefix_trans, prefix_length}
-use Rattle.book.proofs.Later.{at_most_trans, at_most_none}
+use Rattle.book.proofs.Later.{at_most_trans}
 use Rattle.book.proofs.Lines.{even_at, same_in}
-use Rattle.system.specs.Callers.{Caller, IsWrote, accepted_at, whole_cut, IsCaller}
+use Rattle.system.specs.Callers.{Caller, accepted_at, whole_cut, IsCaller}
 use Rattle.system.specs.Fences.{place_of, own_places, IsFloored, IsCovering, AreLonger, IsFenced}
-use Rattle.system.proofs.Callers.{log_grows, wrote_later, wrote_within, cut_mono, whole_later, caller_later}
+use Rattle.system.proofs.Callers.{log_grows, wrote_later, wrote_within, cut_mono, caller_later}
 
 abbrev pub bases_of : List FrontView → List ℕ
 bases_of fs = map (λ (f : FrontView). f.base) fs

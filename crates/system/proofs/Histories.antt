@@ -1,18 +1,17 @@
 -- Items that stand after a part, and logs that were adopted.
-use Rattle.std.proofs.Common.{◌≡◌, ◌⊎◌, ℕ, ◌<◌, ◌≤◌, List, [], ◌∷◌, ◌++◌, length, slice_get, Some, refl, ap, sym, ◌∙◌, subst, arith, append_assoc, inl, inr}
+use Rattle.std.proofs.Common.{◌≡◌, ℕ, ◌<◌, List, ◌∷◌, ◌++◌, length, ap, sym, ◌∙◌, subst, append_assoc, inl, inr}
 use mathlib.Core.List.{IsPrefix}
 use Rattle.row.specs.Bags.{Each}
-use Rattle.row.specs.declared.refused.Refused.{Refused}
 use Rattle.row.specs.declared.refused.Refused.TheVariants.{NoMemory, Stopped}
 use Rattle.plan.specs.Layouts.{Layout}
 use Rattle.book.specs.Logs.{Change}
 use Rattle.book.specs.Places.{layout_of}
-use Rattle.book.specs.Histories.{Item, write, Author, log_of, authors_of}
+use Rattle.book.specs.Histories.{Item, Author, log_of, authors_of}
 use Rattle.book.specs.Refusals.{refusal}
 use Rattle.book.specs.Legal.{limit}
 use Rattle.book.specs.Replies.{IsAfter}
 use Rattle.book.proofs.Prefixes.{prefix_trans}
-use Rattle.domain.specs.Messages.{DeclinedView, IsDecided, IsAnswered}
+use Rattle.domain.specs.Messages.{DeclinedView, IsAnswered}
 use Rattle.system.specs.Inserts.{IsDecidedIn}
 
 -- what stands after a part stands after each beginning of it

@@ -1,6 +1,5 @@
 -- Sessions, as their callers see them.
-use Rattle.std.specs.Prelude.{◌≡◌, ◌⊎◌, ℕ, Bool, List, [], length, map, replicate, slice_get, slice_index_or, Option, Some, None}
-use Rattle.row.specs.declared.refused.Refused.{Refused}
+use Rattle.std.specs.Prelude.{◌≡◌, ℕ, Bool, List, length, map, replicate, slice_get, slice_index_or, Option, Some, None}
 use Rattle.plan.specs.Layouts.{Layout}
 use Rattle.book.specs.Places.{base_count, sources}
 use Rattle.book.specs.Histories.{Item, Lengths, Floors, floor_at, log_of, authors_of}

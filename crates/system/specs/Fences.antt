@@ -1,5 +1,5 @@
 -- What a fence does to its session.
-use Rattle.std.specs.Prelude.{◌≡◌, ◌⊎◌, ℕ, ◌+◌, ◌<◌, ◌≤◌, true, false, List, [], ◌∷◌, flat_map, length, Option, Some, None}
+use Rattle.std.specs.Prelude.{◌≡◌, ◌⊎◌, ℕ, ◌+◌, ◌<◌, ◌≤◌, true, List, [], ◌∷◌, flat_map, length, Option, Some, None}
 use mathlib.Core.List.{IsPrefix}
 use Rattle.row.specs.declared.refused.Refused.{Refused}
 use Rattle.row.specs.declared.refused.Refused.TheVariants.{NoMemory, Stopped, Behind, Stolen}

@@ -1,5 +1,5 @@
 -- What a write does to its session, and when it is refused.
-use Rattle.std.specs.Prelude.{◌≡◌, ◌⊎◌, ℕ, ◌+◌, ◌<◌, nat_le, Bool, ◌||◌, cond, true, List, Option, Some, None, slice_set}
+use Rattle.std.specs.Prelude.{◌≡◌, ◌⊎◌, ℕ, ◌+◌, ◌<◌, nat_le, ◌||◌, cond, List, Option, Some, None, slice_set}
 use mathlib.Core.List.{IsPrefix}
 use Rattle.row.specs.Bags.{Each}
 use Rattle.row.specs.Cells.{shard}

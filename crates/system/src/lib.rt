@@ -9,4 +9,6 @@ mod shared;
 pub mod system;
 #[cfg(test)]
 mod tests;
+#[cfg(test)]
+mod tests_of_pace;
 mod worker;

@@ -1,4 +1,4 @@
-use Rattle.std.proofs.Common.{◌≡◌, ℕ, [], ◌∷◌, ◌++◌, length, ap, ◌∙◌, sym}
+use Rattle.std.proofs.Common.{ℕ, [], ◌∷◌, ◌++◌, ap, ◌∙◌}
 use Rattle.book.specs.Fronts.{FrontView, IsReached}
 use Rattle.book.specs.Pages.{history_of}
 use Rattle.book.proofs.Prefixes.{prefix_trans}

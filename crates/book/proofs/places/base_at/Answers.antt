@@ -1,5 +1,5 @@
-use Rattle.std.proofs.Common.{◌≡◌, ◌+◌, ◌<◌, ◌≤◌, length, sym, ◌∙◌, ap, subst, arith, ℕ}
-use Rattle.plan.specs.Layouts.{TableLayout, table_at}
+use Rattle.std.proofs.Common.{◌≡◌, ◌+◌, ◌<◌, length, sym, ◌∙◌, ap, subst, arith, ℕ}
+use Rattle.plan.specs.Layouts.{TableLayout}
 use Rattle.book.specs.Places.{shards_before, base_at, base_count, layout_of, shard_of}
 use Rattle.book.proofs.PlaceLaws.{before_none, before_more, base_range, base_layout, base_shard}
 use Rattle.book.proofs.places.base_at.Goals as goal

@@ -1,4 +1,4 @@
-use Rattle.std.proofs.Common.{◌≡◌, ◌+◌, ◌++◌, ◌∷◌, [], ℕ, List, refl, ap, sym, ◌∙◌, append_assoc, ◌<◌, subst, arith}
+use Rattle.std.proofs.Common.{◌≡◌, ◌+◌, ◌++◌, ◌∷◌, [], ℕ, List, ap, sym, ◌∙◌, append_assoc, ◌<◌, subst, arith}
 use Rattle.std.specs.List.{range_with_len}
 use Rattle.row.specs.Bags.{Each}
 use Rattle.book.specs.Places.{base_at, base_count}

@@ -1,4 +1,4 @@
-use Rattle.std.proofs.Common.{◌≡◌, map, ap, sym, ◌∙◌, subst, List, ℕ}
+use Rattle.std.proofs.Common.{◌≡◌, map, ap, sym, ◌∙◌, subst}
 use Rattle.plan.specs.Layouts.{Layout}
 use Rattle.book.specs.Fronts.{FrontView}
 use Rattle.book.specs.Histories.{Floors}

@@ -1,4 +1,3 @@
-use Rattle.std.proofs.Common.{nat_le, length}
 use Rattle.book.specs.Pages.{history_of}
 use Rattle.book.proofs.Replies.{legal_longer}
 use Rattle.book.proofs.part.Part.is_legal.Goals as goal

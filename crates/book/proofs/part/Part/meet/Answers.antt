@@ -1,4 +1,3 @@
-use Rattle.std.proofs.Common.{◌⊎◌}
 use mathlib.Core.List.{IsPrefix}
 use Rattle.book.specs.Pages.{history_of}
 use Rattle.book.proofs.Prefixes.{prefix_either, prefix_trans}

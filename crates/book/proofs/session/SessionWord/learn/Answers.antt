@@ -1,4 +1,3 @@
-use Rattle.book.specs.Pages.{history_of}
 use Rattle.book.proofs.Steps.{seen_more}
 use Rattle.book.proofs.Sessions.{session_later}
 use Rattle.book.proofs.session.SessionWord.learn.Goals as goal

@@ -1,12 +1,10 @@
-use Rattle.std.proofs.Common.{◌≡◌, ◌<◌, ℕ, List, Option, ◌++◌, ◌∷◌, [], length, ap, sym, ◌∙◌, subst}
+use Rattle.std.proofs.Common.{◌≡◌, ◌<◌, ◌++◌, ◌∷◌, [], sym, ◌∙◌, subst}
 use Rattle.row.specs.Bags.{Each}
 use Rattle.book.specs.Entries.{change_of}
 use Rattle.book.specs.Histories.{Author}
 use Rattle.book.specs.Logs.{Change}
-use Rattle.book.specs.Fronts.{FrontView, entries, authors, IsAppended}
-use Rattle.book.specs.Refusals.{refusal_over}
-use Rattle.base.specs.Shards.{Shard, IsAt}
-use Rattle.domain.specs.Bases.{Domain}
+use Rattle.book.specs.Fronts.{FrontView, entries, authors}
+use Rattle.base.specs.Shards.{IsAt}
 use Rattle.domain.proofs.Calls.{absent, rows_refusal, same_refusal, domain_next}
 use Rattle.domain.proofs.base_domain.BaseDomain.accept.Goals as goal
 

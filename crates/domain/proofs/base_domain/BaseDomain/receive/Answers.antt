@@ -1,10 +1,7 @@
-use Rattle.std.proofs.Common.{◌≡◌, ◌⊎◌, inl, inr, ap, sym, ◌∙◌, Some, None, subst}
-use Rattle.std.specs.Result.{IfErr}
-use Rattle.row.specs.declared.refused.Refused.{Refused}
+use Rattle.std.proofs.Common.{◌≡◌, sym, ◌∙◌, Some, None}
 use Rattle.book.specs.Entries.{change_of}
-use Rattle.book.specs.Fronts.{FrontView, entries}
-use Rattle.domain.specs.Messages.{DeclinedView, WriteView}
-use Rattle.domain.specs.Bases.{Domain, Declines, IsAnswer, Stops, refusal_at}
+use Rattle.book.specs.Fronts.{entries}
+use Rattle.domain.specs.Bases.{refusal_at}
 use Rattle.domain.proofs.Calls.{shard_refusal, refused_verdict, free_verdict, declines_refused, declines_memory, both_err}
 use Rattle.domain.proofs.base_domain.BaseDomain.receive.Goals as goal
 

@@ -1,8 +1,6 @@
-use Rattle.std.proofs.Common.{◌≡◌, ap, sym, ◌∙◌, inl, inr}
-use Rattle.row.specs.declared.refused.Refused.{Refused}
+use Rattle.std.proofs.Common.{ap, sym, ◌∙◌, inl, inr}
 use Rattle.book.specs.Entries.{change_of}
 use Rattle.book.specs.Fronts.{FrontView, entries, authors}
-use Rattle.domain.specs.Messages.{IsDecided, DeclinedView}
 use Rattle.domain.proofs.Calls.{decided}
 use Rattle.domain.proofs.base_domain.BaseDomain.refuse.Goals as goal
 use Rattle.domain.proofs.base_domain.BaseDomain.refuse.Goals.{then-look-len, else-look-len}

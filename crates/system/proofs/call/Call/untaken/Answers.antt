@@ -1,7 +1,5 @@
-use Rattle.std.proofs.Common.{◌≡◌, ap, sym, ◌∙◌, inl, inr, subst, refl}
-use Rattle.row.specs.declared.refused.Refused.{Refused}
+use Rattle.std.proofs.Common.{◌∙◌, inr, refl}
 use Rattle.book.specs.Entries.{change_of}
-use Rattle.system.specs.Inserts.{IsDecidedIn}
 use Rattle.system.proofs.Histories.{adopted_decides}
 use Rattle.system.proofs.call.Call.untaken.Goals as goal
 

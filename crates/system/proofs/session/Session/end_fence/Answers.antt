@@ -1,16 +1,8 @@
-use Rattle.std.proofs.Common.{◌≡◌, ◌+◌, ℕ, List, Bool, true, map, ap, sym, ◌∙◌, subst, refl, arith}
-use mathlib.Core.List.{IsPrefix}
-use Rattle.row.specs.Bags.{Each}
-use Rattle.plan.specs.Layouts.{Layout}
-use Rattle.book.specs.Fronts.{FrontView, IsReached}
-use Rattle.book.specs.Histories.{Item, Place, fence}
-use Rattle.book.specs.Pages.{IsAdded}
-use Rattle.book.specs.Sessions.{SessionView, own_word, even_floors, places_of}
+use Rattle.std.proofs.Common.{◌+◌, true, ◌∙◌, arith}
+use Rattle.book.specs.Sessions.{places_of}
 use Rattle.book.proofs.Prefixes.{prefix_trans}
-use Rattle.system.specs.Callers.{Caller, IsCaller}
-use Rattle.system.specs.Fences.{own_places, IsCovering, IsFenced}
 use Rattle.system.proofs.Callers.{caller_later}
-use Rattle.system.proofs.Fences.{floors_rise, own_written, own_past, floored, caller_fenced, each_reached_later, added_grows, fenced}
+use Rattle.system.proofs.Fences.{floors_rise, own_written, own_past, caller_fenced, each_reached_later, added_grows, fenced}
 use Rattle.system.proofs.session.Session.end_fence.Goals as goal
 
 pub fence-requires-clause-floors : goal.fence-requires-clause-floors

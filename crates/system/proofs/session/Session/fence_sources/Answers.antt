@@ -1,7 +1,3 @@
-use Rattle.std.proofs.Common.{◌≡◌, List, ap, sym, ◌∙◌, subst}
-use Rattle.row.specs.Bags.{Each}
-use Rattle.book.specs.Fronts.{FrontView}
-use Rattle.system.specs.Fences.{IsCovering}
 use Rattle.system.proofs.Fences.{longer_covers}
 use Rattle.system.proofs.session.Session.fence_sources.Goals as goal
 

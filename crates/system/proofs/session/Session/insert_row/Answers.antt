@@ -1,5 +1,5 @@
-use Rattle.std.proofs.Common.{◌≡◌, ℕ, ap, sym, ◌∙◌, subst, refl, None, Some}
-use Rattle.plan.specs.Layouts.{Layout, table_at, table_named}
+use Rattle.std.proofs.Common.{◌≡◌, ap, ◌∙◌, refl, None, Some}
+use Rattle.plan.specs.Layouts.{table_at, table_named}
 use Rattle.row.specs.Cells.{shard}
 use Rattle.book.specs.Logs.{inserts, key_of}
 use Rattle.book.specs.Places.{base_at}

@@ -1,5 +1,3 @@
-use Rattle.std.proofs.Common.{subst, sym}
-use Rattle.system.specs.Callers.{Caller}
 use Rattle.system.proofs.Callers.{caller_later}
 use Rattle.system.proofs.session.Session.meet.Goals as goal
 

@@ -1,6 +1,5 @@
-use Rattle.std.proofs.Common.{◌≡◌, ℕ, List, Option, None, replicate, ap, sym, ◌∙◌, arith, rules}
+use Rattle.std.proofs.Common.{◌≡◌, None, replicate, arith, rules}
 use Rattle.book.specs.Places.{base_count}
-use Rattle.system.specs.Callers.{Caller, IsCaller}
 use Rattle.system.proofs.Callers.{caller_new}
 use Rattle.system.proofs.session.Session.new.Goals as goal
 

@@ -1,8 +1,5 @@
-use Rattle.std.proofs.Common.{◌≡◌, ℕ, ◌+◌, ap, sym, ◌∙◌, subst, refl, arith}
+use Rattle.std.proofs.Common.{◌+◌, arith}
 use Rattle.book.specs.Entries.{change_of}
-use Rattle.book.specs.Histories.{write}
-use Rattle.book.specs.Replies.{IsAfter}
-use Rattle.system.specs.Callers.{Caller}
 use Rattle.system.proofs.Callers.{caller_later, caller_taken, taken, answer_grows}
 use Rattle.system.proofs.session.Session.write.Goals as goal
 
