@@ -14,22 +14,22 @@ use Rattle.plan.specs.declared.kinds.Aggregate.TheVariants.{Count, Sum}
 use Rattle.plan.specs.declared.kinds.Kind.{Kind}
 use Rattle.plan.specs.declared.kinds.Kind.TheVariants as kind
 
-and_left : (a b : Bool) → (a && b) ≡ true → a ≡ true
+pub and_left : (a b : Bool) → (a && b) ≡ true → a ≡ true
 and_left true b h = refl
 and_left false b h = absurd cc
 
-and_right : (a b : Bool) → (a && b) ≡ true → b ≡ true
+pub and_right : (a b : Bool) → (a && b) ≡ true → b ≡ true
 and_right true b h = h
 and_right false b h = absurd cc
 
-and_both : (a b : Bool) → a ≡ true → b ≡ true → (a && b) ≡ true
+pub and_both : (a b : Bool) → a ≡ true → b ≡ true → (a && b) ≡ true
 and_both true b h k = k
 and_both false b h k = absurd cc
 
-lt_of : (a b : ℕ) → nat_lt a b ≡ true → a < b
+pub lt_of : (a b : ℕ) → nat_lt a b ≡ true → a < b
 lt_of a b h = grind (arith, nat_tests)
 
-of_lt : (a b : ℕ) → a < b → nat_lt a b ≡ true
+pub of_lt : (a b : ℕ) → a < b → nat_lt a b ≡ true
 of_lt a b h = grind (arith, nat_tests)
 
 le_of : (a b : ℕ) → nat_le a b ≡ true → a ≤ b
@@ -163,7 +163,7 @@ kind_there [] c lt = absurd (omega arith)
 kind_there (x ∷ cs) zero lt = refl
 kind_there (x ∷ cs) (suc c) lt = kind_there cs c (omega arith)
 
-kind_inside : (cs : List ColumnLayout) (c : ℕ) (k : Kind) → is_one_kind (option_map (λ (x : ColumnLayout). x.kind) (slice_get cs c)) (Some k) ≡ true → c < length cs
+pub kind_inside : (cs : List ColumnLayout) (c : ℕ) (k : Kind) → is_one_kind (option_map (λ (x : ColumnLayout). x.kind) (slice_get cs c)) (Some k) ≡ true → c < length cs
 kind_inside [] c k h = absurd cc
 kind_inside (x ∷ cs) zero k h = omega arith
 kind_inside (x ∷ cs) (suc c) k h = let r = kind_inside cs c k h in omega arith

@@ -3,3 +3,5 @@ pub mod Decides
 pub mod RowLoops
 pub mod OutputLaws
 pub mod KeyOutputs
+pub mod Ranges
+pub mod Known

@@ -4,3 +4,5 @@ pub mod Outputs
 pub mod Profile
 pub mod Tested
 pub mod Recipes
+pub mod Domains
+pub mod Passes

@@ -28,7 +28,7 @@ impl Kind {
     }
 }
 
-fn is_plain(bytes: &[u8]) -> bool
+pub(crate) fn is_plain(bytes: &[u8]) -> bool
     ensures { result ≡ is_plain bytes.now }
 {
     if bytes.len() > 255 {

@@ -1,9 +1,12 @@
 //! A checked plan: tables, one stage over them, and views of what the stage gives.
 #![tactic(auto)]
 
+pub mod domain;
 pub mod draft;
 pub mod kinds;
-mod names;
+pub mod names;
+mod naming;
+mod passes;
 pub mod plan;
 pub mod stage;
 pub mod table;

@@ -1,10 +1,10 @@
 //! Names of tables, columns and views.
 ghost use Rattle.std.specs.Prelude.{◌≡◌};
 ghost use Rattle.std.specs.List.{list_all};
-ghost use Rattle.plan.specs.Profile.{is_letter, is_name_byte, is_name, is_domain_name};
+ghost use Rattle.plan.specs.Profile.{is_letter, is_name_byte, is_name};
 
 /// Whether the text is a name: 1 to 32 bytes of `a` to `z`, `0` to `9` and `_`, first a letter.
-pub(crate) fn is_name(name: &str) -> bool
+pub fn is_name(name: &str) -> bool
     ensures { result ≡ is_name name.now }
 {
     let bytes = name.as_bytes();
@@ -12,13 +12,6 @@ pub(crate) fn is_name(name: &str) -> bool
         Some((first, rest)) => bytes.len() <= 32 && is_letter(*first) && are_name_bytes(rest),
         None => false,
     }
-}
-
-/// Whether it is a name of a table or a view, which is not `stage`.
-pub(crate) fn is_domain_name(name: &str) -> bool
-    ensures { result ≡ is_domain_name name.now }
-{
-    is_name(name) && name != "stage"
 }
 
 fn is_letter(byte: u8) -> bool

@@ -1,7 +1,8 @@
 //! A checked plan, which contracts see as its layout.
-ghost use Rattle.std.specs.Prelude.{◌≡◌, ◌<◌, ◌≤◌, IfOk, IfSome, MatchOption, length, string_bytes};
+ghost use Rattle.std.specs.Prelude.{◌≡◌, true, ◌<◌, ◌≤◌, IfOk, IfSome, MatchOption, length, string_bytes};
 ghost use Rattle.std.specs.Option.{option_copied};
 ghost use Rattle.plan.specs.Layouts.{table_at, table_named, view_at, view_named};
+ghost use Rattle.plan.specs.Passes.{is_unrefused};
 ghost use Rattle.plan.specs.Profile.{IsPlan};
 ghost use Rattle.plan.specs.Recipes.{notes_plan};
 
@@ -131,6 +132,14 @@ impl Plan {
         if !draft.is_plan() {
             return None;
         }
+        Some(Plan::passed(draft))
+    }
+
+    /// The plan of a draft that no check refuses. Takes no memory.
+    pub fn passed(draft: Draft) -> Plan
+        requires { is_unrefused draft ≡ true }
+        ensures { result ≡ draft }
+    {
         let Draft {
             tables,
             stages,
@@ -140,7 +149,7 @@ impl Plan {
             cap,
             views,
         } = draft;
-        Some(Plan {
+        Plan {
             tables,
             stages,
             left,
@@ -148,7 +157,7 @@ impl Plan {
             aggregate,
             cap,
             views,
-        })
+        }
     }
 
     /// The plan is of the profile, which its type keeps. Does nothing: a caller learns it.
@@ -184,6 +193,36 @@ impl Plan {
         &self.tables[table]
     }
 
+    /// How many shards the table at this place has, or 0 where there is no table.
+    pub(crate) fn table_shards(&self, table: usize) -> usize
+        ensures { result ≡ (table_at self.now table).shards }
+    {
+        match self.tables.get(table) {
+            Some(table) => table.shards(),
+            None => 0,
+        }
+    }
+
+    /// The name of the table at this place, or nothing where there is no table.
+    pub(crate) fn table_name(&self, table: usize) -> &str
+        ensures { result.now ≡ (table_at self.now table).name }
+    {
+        match self.tables.get(table) {
+            Some(table) => table.name(),
+            None => "",
+        }
+    }
+
+    /// The name of the view at this place, or nothing where there is no view.
+    pub(crate) fn view_name(&self, view: usize) -> &str
+        ensures { result.now ≡ (view_at self.now view).name }
+    {
+        match self.views.get(view) {
+            Some(view) => view.name(),
+            None => "",
+        }
+    }
+
     /// How many shards the stage has.
     pub fn stages(&self) -> usize
         ensures { result ≡ self.now.stages }
@@ -210,6 +249,14 @@ impl Plan {
         ensures { result ≡ self.now.aggregate }
     {
         self.aggregate
+    }
+
+    /// How many filled keys a stage shard keeps.
+    pub fn cap(&self) -> usize
+        ensures { result ≡ self.now.cap }
+    {
+        let Plan { cap, .. } = self;
+        *cap
     }
 
     /// The place of the view with this name. Costs a look at each name.

@@ -1,11 +1,13 @@
 //! The one stage of a plan: the sides that it reads, and their conditions.
-ghost use Rattle.std.specs.Prelude.{◌≡◌};
+ghost use Rattle.std.specs.Prelude.{◌≡◌, ◌&&◌, nat_lt};
 ghost use Rattle.std.specs.List.{list_all};
 ghost use Rattle.row.specs.Cells.{datum_of};
+ghost use Rattle.plan.specs.Layouts.{ConditionLayout, no_table};
 ghost use Rattle.plan.specs.Outputs.{holds, pass};
-ghost use Rattle.plan.specs.Tested.{is_condition, is_side_of, is_side};
+ghost use Rattle.plan.specs.Passes.{value_is_small, side_is_small};
+ghost use Rattle.plan.specs.Tested.{is_condition};
 
-use crate::kinds::Op;
+use crate::kinds::{Op, is_plain};
 use crate::table::Table;
 use row::row::Row;
 use row::value::Value;
@@ -43,6 +45,16 @@ impl Condition {
         match row.get(self.column) {
             Some(cell) => self.op.compares(cell.compare(&self.value)),
             None => false,
+        }
+    }
+
+    /// Whether the value is a number, or a text that a cell can be.
+    pub fn is_small(&self) -> bool
+        ensures { result ≡ value_is_small self.now.value }
+    {
+        match &self.value {
+            Value::Int(_) => true,
+            Value::Text(text) => is_plain(text.as_bytes()),
         }
     }
 
@@ -104,26 +116,45 @@ impl Side {
         self.conditions.iter().all(|condition| condition.holds(row))
     }
 
-    /// Whether the side is one over the table: its key among the columns, and at most 8 conditions,
-    /// each of which fits.
-    pub fn is_of(&self, table: &Table) -> bool
-        ensures { result ≡ is_side_of table.now self.now }
+    /// Whether there are at most 8 conditions, with values that cells can be.
+    pub fn is_small(&self) -> bool
+        ensures { result ≡ side_is_small self.now }
     {
-        table.width() > self.key && self.conditions.len() <= 8 && self.conditions_fit(table)
+        self.conditions.len() <= 8 && self.values_are_small()
     }
 
-    fn conditions_fit(&self, table: &Table) -> bool
+    fn values_are_small(&self) -> bool
+        ensures { result ≡ list_all (λ (c : ConditionLayout). value_is_small c.value) self.now.conditions }
+    {
+        self.conditions.iter().all(|condition| condition.is_small())
+    }
+
+    /// Whether the key and the columns of all conditions are among so many columns.
+    pub(crate) fn is_within(&self, width: usize) -> bool
+        ensures { result ≡ (nat_lt self.now.key width && list_all (λ (c : ConditionLayout). nat_lt c.column width) self.now.conditions) }
+    {
+        width > self.key && self.columns_are_within(width)
+    }
+
+    fn columns_are_within(&self, width: usize) -> bool
+        ensures { result ≡ list_all (λ (c : ConditionLayout). nat_lt c.column width) self.now.conditions }
+    {
+        self.conditions
+            .iter()
+            .all(|condition| condition.column < width)
+    }
+
+    pub(crate) fn has_no_conditions(&self) -> bool
+        ensures { result ≡ list_all (is_condition no_table) self.now.conditions }
+    {
+        self.conditions.is_empty()
+    }
+
+    pub(crate) fn conditions_fit(&self, table: &Table) -> bool
         ensures { result ≡ list_all (is_condition table.now) self.now.conditions }
     {
         self.conditions
             .iter()
             .all(|condition| condition.fits(table))
-    }
-
-    /// Whether the side is one over these tables.
-    pub fn fits(&self, tables: &[Table]) -> bool
-        ensures { result ≡ is_side tables.now self.now }
-    {
-        tables.len() > self.table && self.is_of(&tables[self.table])
     }
 }

@@ -1,15 +1,16 @@
 //! Tables and their columns.
-ghost use Rattle.std.specs.Prelude.{◌≡◌, ◌<◌, ◌&&◌, length, map, string_bytes, slice_index_or, slice_get, IfOk};
+ghost use Rattle.std.specs.Prelude.{◌≡◌, ◌<◌, ◌&&◌, length, map, string_bytes, IfOk};
 ghost use Rattle.std.specs.Bool.{OnTrue};
 ghost use Rattle.std.specs.List.{list_all};
 ghost use Rattle.row.specs.Cells.{datum_of};
 ghost use Rattle.plan.specs.Kinds.{is_cell, is_row};
 ghost use Rattle.plan.specs.Layouts.{ColumnLayout, column_at, kind_at};
-ghost use Rattle.plan.specs.Profile.{is_name, is_domain_name};
-ghost use Rattle.plan.specs.Tested.{is_from, is_table, is_new, are_apart};
+ghost use Rattle.plan.specs.Passes.{table_is_small, columns_are_apart};
+ghost use Rattle.plan.specs.Profile.{is_name};
+ghost use Rattle.plan.specs.Tested.{is_from, is_new, are_apart};
 
 use crate::kinds::Kind;
-use crate::names::{is_domain_name, is_name};
+use crate::names::is_name;
 use row::row::Row;
 use row::value::Value;
 use std::alloc::{AllocError, Global};
@@ -55,7 +56,8 @@ impl Column {
         self.kind
     }
 
-    fn name(&self) -> &str
+    /// The column's name.
+    pub fn name(&self) -> &str
         ensures { result.now ≡ self.now.name }
     {
         &self.name
@@ -114,6 +116,13 @@ impl Table {
         self.key
     }
 
+    /// The columns.
+    pub fn columns(&self) -> &[Column]
+        ensures { result.now ≡ self.now.columns }
+    {
+        &self.columns
+    }
+
     /// How many columns the table has.
     pub fn width(&self) -> usize
         ensures { result ≡ length self.now.columns }
@@ -156,22 +165,21 @@ impl Table {
         self.columns[column].takes(value)
     }
 
-    /// Whether the table and its columns have names.
-    pub fn is_named(&self) -> bool
-        ensures { result ≡ (is_domain_name self.now.name && list_all (λ (c : ColumnLayout). is_name c.name) self.now.columns) }
-    {
-        is_domain_name(&self.name) && are_named(&self.columns)
-    }
-
-    /// Whether the table is one of the profile: 1 to 8 shards, 1 to 16 columns with names that are
-    /// apart, and its key among them.
-    pub fn is_of_profile(&self) -> bool
-        ensures { result ≡ is_table self.now }
+    /// Whether the table has 1 to 8 shards, 1 to 16 columns, and names of the form of names.
+    pub fn is_small(&self) -> bool
+        ensures { result ≡ table_is_small self.now }
     {
         is_from(1, 8, self.shards)
-            && is_from(1, 16, self.columns.len())
-            && self.key < self.columns.len()
-            && are_apart(self.columns.as_slice())
+            && is_from(1, 16, self.width())
+            && is_name(&self.name)
+            && are_named(&self.columns)
+    }
+
+    /// Whether no two columns have one name.
+    pub fn columns_are_apart(&self) -> bool
+        ensures { result ≡ columns_are_apart self.now }
+    {
+        are_apart(&self.columns)
     }
 }
 

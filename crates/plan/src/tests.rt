@@ -1,4 +1,5 @@
 //! The built-in plan, and conditions on rows.
+use crate::domain::{DomainId, Edge, Tag};
 use crate::kinds::{Kind, Op};
 use crate::plan::Plan;
 use crate::stage::{Condition, Side};
@@ -37,6 +38,80 @@ fn the_built_in_plan(rt: HostRuntime) -> Result<(), Fail> {
     let view = plan.view(0);
     assert_eq!(rt; view.name(), "by_author");
     assert_eq!(rt; (view.key(), view.shards()), (1, 1));
+    Ok(())
+}
+
+#[test]
+fn the_edges_of_the_built_in_plan(rt: HostRuntime) -> Result<(), Fail> {
+    let plan = Plan::built_in(rt.alloc())?;
+    let (notes, stage, view) = (
+        DomainId::Base(0, 0),
+        DomainId::Stage(0),
+        DomainId::View(0, 0),
+    );
+    let edges = plan.edges(rt.alloc())?;
+    assert_eq!(rt; edges.len(), 4);
+    assert_eq!(rt;
+        edges.first(),
+        Some(&Edge {
+            from: notes,
+            to: stage
+        })
+    );
+    assert_eq!(rt;
+        edges.get(1),
+        Some(&Edge {
+            from: stage,
+            to: view
+        })
+    );
+    assert_eq!(rt;
+        edges.get(2),
+        Some(&Edge {
+            from: view,
+            to: stage
+        })
+    );
+    assert_eq!(rt;
+        edges.get(3),
+        Some(&Edge {
+            from: stage,
+            to: notes
+        })
+    );
+    assert_eq!(rt; plan.tags(), [Tag(1)].as_slice());
+    assert_eq!(rt; plan.sources(rt.alloc())?.first(), Some(&notes));
+    assert_eq!(rt; plan.stage_shards(rt.alloc())?.first(), Some(&stage));
+    assert_eq!(rt; plan.view_shards(rt.alloc())?.first(), Some(&view));
+    Ok(())
+}
+
+#[test]
+fn texts_of_domains_and_edges(rt: HostRuntime) -> Result<(), Fail> {
+    let alloc = rt.alloc();
+    let plan = Plan::built_in(alloc)?;
+    let (notes, stage, view) = (
+        DomainId::Base(0, 0),
+        DomainId::Stage(0),
+        DomainId::View(0, 0),
+    );
+    assert_eq!(rt; plan.domain_text(alloc, notes)?.as_str(), "notes.0");
+    assert_eq!(rt; plan.domain_text(alloc, stage)?.as_str(), "stage.0");
+    assert_eq!(rt; plan.domain_text(alloc, view)?.as_str(), "by_author.0");
+    let edge = Edge {
+        from: stage,
+        to: view,
+    };
+    assert_eq!(rt;
+        plan.edge_text(alloc, edge)?.as_str(),
+        "stage.0>by_author.0"
+    );
+    assert_eq!(rt; plan.domain_named(alloc, "notes.0")?, Some(notes));
+    assert_eq!(rt; plan.domain_named(alloc, "by_author.0")?, Some(view));
+    assert_eq!(rt; plan.domain_named(alloc, "stage.00")?, None);
+    assert_eq!(rt; plan.domain_named(alloc, "stage.1")?, None);
+    assert_eq!(rt; plan.edge_named(alloc, "stage.0>by_author.0")?, Some(edge));
+    assert_eq!(rt; plan.edge_named(alloc, "notes.0>by_author.0")?, None);
     Ok(())
 }
 

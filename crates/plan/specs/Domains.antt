@@ -1,0 +1,91 @@
+-- The domains of a plan, its tags, and the edges between domains in their order.
+use Rattle.std.specs.Prelude.{ℕ, List, [], ◌∷◌, ◌++◌, map, flat_map, length, Option, Some, None, cond, codes}
+use Rattle.std.specs.Fmt.{decimal}
+use Rattle.std.specs.List.{range_with_len}
+use Rattle.std.specs.Str.{bytes_eq}
+use Rattle.plan.specs.Layouts.{SideLayout, Layout, table_at, view_at}
+use Rattle.plan.specs.declared.domain.DomainId.{DomainId}
+use Rattle.plan.specs.declared.domain.DomainId.TheVariants as domain
+use Rattle.plan.specs.declared.domain.Edge.{Edge}
+
+-- the shards of the side's table
+abbrev pub bases_of : Layout → SideLayout → List DomainId
+bases_of p s = map (λ n. domain.Base s.table n) (range_with_len 0 (table_at p s.table).shards)
+
+-- those of the right side's table, if there is one
+abbrev pub right_bases : Layout → Option SideLayout → List DomainId
+right_bases p None = []
+right_bases p (Some s) = bases_of p s
+
+-- the sources of the stage: the shards of the left table, then those of the right one
+abbrev pub sources : Layout → List DomainId
+sources p = bases_of p p.left ++ right_bases p p.right
+
+-- the shards of the stage
+abbrev pub stage_shards : Layout → List DomainId
+stage_shards p = map (λ n. domain.Stage n) (range_with_len 0 p.stages)
+
+-- the shards of the view at the place
+abbrev pub shards_of_view : Layout → ℕ → List DomainId
+shards_of_view p i = map (λ n. domain.View i n) (range_with_len 0 (view_at p i).shards)
+
+-- the shards of the views, view by view
+abbrev pub view_shards : Layout → List DomainId
+view_shards p = flat_map (shards_of_view p) (range_with_len 0 (length p.views))
+
+-- an edge from each of these to each of those
+abbrev pub edges_from : DomainId → List DomainId → List Edge
+edges_from x ys = map (λ y. record { from = x; to = y }) ys
+
+abbrev pub pairs : List DomainId → List DomainId → List Edge
+pairs xs ys = flat_map (λ x. edges_from x ys) xs
+
+-- changes flow from sources to stage shards and from those to view shards, requests the other way
+abbrev pub edges : Layout → List Edge
+edges p =
+    pairs (sources p) (stage_shards p)
+    ++ pairs (stage_shards p) (view_shards p)
+    ++ pairs (view_shards p) (stage_shards p)
+    ++ pairs (stage_shards p) (sources p)
+
+-- tag 0 fills the right side, if there is one; tag 1+i fills view i
+abbrev pub right_tags : Option SideLayout → List ℕ
+right_tags None = []
+right_tags (Some s) = 0 ∷ []
+
+abbrev pub tags : Layout → List ℕ
+tags p = right_tags p.right ++ range_with_len 1 (length p.views)
+
+-- ---- texts: the name of the table or view, or `stage`, then the shard
+abbrev pub numbered : List ℕ → ℕ → List ℕ
+numbered name n = name ++ (codes "." ++ decimal n)
+
+abbrev pub domain_text : Layout → DomainId → List ℕ
+domain_text p (domain.Base t n) = numbered (table_at p t).name n
+domain_text p (domain.Stage n) = numbered (codes "stage") n
+domain_text p (domain.View v n) = numbered (view_at p v).name n
+
+abbrev pub edge_text : Layout → Edge → List ℕ
+edge_text p e = domain_text p e.from ++ (codes ">" ++ domain_text p e.to)
+
+-- the shards of all tables, in the stage or not
+abbrev pub shards_of_table : Layout → ℕ → List DomainId
+shards_of_table p t = map (λ n. domain.Base t n) (range_with_len 0 (table_at p t).shards)
+
+abbrev pub base_shards : Layout → List DomainId
+base_shards p = flat_map (shards_of_table p) (range_with_len 0 (length p.tables))
+
+-- the first of them that has the text
+abbrev pub named_among : Layout → List ℕ → List DomainId → Option DomainId
+named_among p text [] = None
+named_among p text (d ∷ ds) = cond (bytes_eq (domain_text p d) text) (Some d) (named_among p text ds)
+
+abbrev pub domain_named : Layout → List ℕ → Option DomainId
+domain_named p text = named_among p text (base_shards p ++ stage_shards p ++ view_shards p)
+
+abbrev pub edge_among : Layout → List ℕ → List Edge → Option Edge
+edge_among p text [] = None
+edge_among p text (e ∷ es) = cond (bytes_eq (edge_text p e) text) (Some e) (edge_among p text es)
+
+abbrev pub edge_named : Layout → List ℕ → Option Edge
+edge_named p text = edge_among p text (edges p)

@@ -1,0 +1,7 @@
+use Rattle.std.proofs.Common.{rules}
+use Rattle.recipe.specs.Fields.{stage_at}
+use Rattle.recipe.proofs.stage.stage_at.Goals as goal
+
+pub returns-in_err-cap : goal.returns-in_err-cap
+unfolding stage_at
+returns-in_err-cap c = search rules

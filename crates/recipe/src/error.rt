@@ -1,0 +1,161 @@
+//! Why a recipe is refused, and where the fault is.
+ghost use Rattle.std.specs.Prelude.{◌≡◌};
+ghost use Rattle.std.proofs.Common.{rules};
+ghost use Rattle.std.specs.Cmp.Rules.{comparing};
+ghost use Rattle.std.specs.Ordering.{nat_cmp, on, eq_by_cmp};
+ghost use Rattle.recipe.specs.Errors.{number_of, name_of};
+ghost use Rattle.recipe.specs.declared.error.PlanError.TheVariants.{NoMemory};
+
+use std::alloc::{AllocError, AllocFailed};
+use std::fmt;
+use thiserror::Error;
+
+/// A part of a recipe. Tables, views and conditions are counted from 0; they print from 1.
+#[derive(Clone, Copy, PartialEq, Eq, Debug)]
+pub enum Part {
+    Recipe,
+    Table(usize),
+    Stage,
+    LeftCondition(usize),
+    RightCondition(usize),
+    View(usize),
+}
+
+/// The place of a fault: a part, a field of it, and what is expected there.
+#[derive(Clone, Copy, Debug)]
+pub struct Spot {
+    pub part: Part,
+    pub field: &'static str,
+    pub expected: &'static str,
+}
+
+impl Spot {
+    /// This place.
+    pub fn new(part: Part, field: &'static str, expected: &'static str) -> Spot
+        ensures part { result.part ≡ part }
+        ensures field { result.field.now ≡ field.now }
+        ensures expected { result.expected.now ≡ expected.now }
+    {
+        Spot {
+            part,
+            field,
+            expected,
+        }
+    }
+}
+
+/// Why a recipe is refused, with the place of the fault. Two are equal if their numbers are.
+#[derive(Clone, Copy, Debug, Error)]
+pub enum PlanError {
+    #[error("no memory is left")]
+    NoMemory,
+    #[error("the text is not TOML")]
+    NotToml,
+    #[error("{0}, which is missing")]
+    MissingField(Spot),
+    #[error("{0}, and there is none such")]
+    UnknownColumn(Spot),
+    #[error("{0}")]
+    TypeMismatch(Spot),
+    #[error("{0}")]
+    DoublePath(Spot),
+    #[error("{0}")]
+    KeyNotLeft(Spot),
+    #[error("{0}")]
+    LimitExceeded(Spot),
+    #[error("{0}")]
+    DuplicateName(Spot),
+}
+
+impl PlanError {
+    /// The number of the refusal: 1, or 20 to 27.
+    pub fn number(&self) -> u8
+        ensures { result ≡ number_of self.now }
+    {
+        match self {
+            PlanError::NoMemory => 1,
+            PlanError::NotToml => 20,
+            PlanError::MissingField(_) => 21,
+            PlanError::UnknownColumn(_) => 22,
+            PlanError::TypeMismatch(_) => 23,
+            PlanError::DoublePath(_) => 24,
+            PlanError::KeyNotLeft(_) => 25,
+            PlanError::LimitExceeded(_) => 26,
+            PlanError::DuplicateName(_) => 27,
+        }
+    }
+
+    /// The name of the refusal, as users see it behind its number.
+    pub fn name(&self) -> &'static str
+        ensures { result.now ≡ name_of self.now }
+    {
+        match self {
+            PlanError::NoMemory => "NoMemory",
+            PlanError::NotToml => "NotToml",
+            PlanError::MissingField(_) => "MissingField",
+            PlanError::UnknownColumn(_) => "UnknownColumn",
+            PlanError::TypeMismatch(_) => "TypeMismatch",
+            PlanError::DoublePath(_) => "DoublePath",
+            PlanError::KeyNotLeft(_) => "KeyNotLeft",
+            PlanError::LimitExceeded(_) => "LimitExceeded",
+            PlanError::DuplicateName(_) => "DuplicateName",
+        }
+    }
+}
+
+impl PartialEq for PlanError {
+    ghost eq = { eq_by_cmp (on number_of nat_cmp) };
+
+    ghost laws = { Prim.search (comparing, rules) };
+
+    fn eq(&self, other: &PlanError) -> bool {
+        self.number() == other.number()
+    }
+}
+
+impl Eq for PlanError {
+    ghost laws = { Prim.search (comparing, rules) };
+}
+
+impl fmt::Display for Part {
+    fn fmt<W: fmt::Write>(&self, f: &mut fmt::Formatter<W>) -> fmt::Result {
+        match self {
+            Part::Recipe => write!(f, "the recipe"),
+            Part::Table(at) => write!(f, "table {}", at.saturating_add(1)),
+            Part::Stage => write!(f, "the stage"),
+            Part::LeftCondition(at) => {
+                write!(f, "the stage, left condition {}", at.saturating_add(1))
+            }
+            Part::RightCondition(at) => {
+                write!(f, "the stage, right condition {}", at.saturating_add(1))
+            }
+            Part::View(at) => write!(f, "view {}", at.saturating_add(1)),
+        }
+    }
+}
+
+impl fmt::Display for Spot {
+    fn fmt<W: fmt::Write>(&self, f: &mut fmt::Formatter<W>) -> fmt::Result {
+        write!(
+            f,
+            "{}, `{}`: expected {}",
+            self.part, self.field, self.expected
+        )
+    }
+}
+
+impl From<AllocError> for PlanError {
+    ghost from_gives = { λ _ e. e ≡ NoMemory };
+
+    fn from(_e: AllocError) -> PlanError {
+        PlanError::NoMemory
+    }
+}
+
+impl<T: Drop> From<AllocFailed<T>> for PlanError {
+    ghost from_gives = { λ _ e. e ≡ NoMemory };
+
+    fn from(_e: AllocFailed<T>) -> PlanError {
+        PlanError::NoMemory
+    }
+}

@@ -1,0 +1,13 @@
+//! Recipes: from a TOML text to a checked plan.
+#![tactic(auto)]
+
+pub mod error;
+mod fields;
+mod names;
+mod reading;
+pub mod recipe;
+mod spots;
+mod stage;
+#[cfg(test)]
+mod tests;
+pub mod word;
