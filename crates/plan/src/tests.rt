@@ -41,77 +41,99 @@ fn the_built_in_plan(rt: HostRuntime) -> Result<(), Fail> {
     Ok(())
 }
 
+const NOTES: DomainId = DomainId::Base(0, 0);
+
+const STAGE: DomainId = DomainId::Stage(0);
+
+const VIEW: DomainId = DomainId::View(0, 0);
+
+// The edge at this place of the built-in plan.
+fn edge_at(alloc: Global, at: usize) -> Result<Option<Edge>, AllocError> {
+    let edges = Plan::built_in(alloc)?.edges(alloc)?;
+    Ok(edges.get(at).copied())
+}
+
 #[test]
 fn the_edges_of_the_built_in_plan(rt: HostRuntime) -> Result<(), Fail> {
-    let plan = Plan::built_in(rt.alloc())?;
-    let (notes, stage, view) = (
-        DomainId::Base(0, 0),
-        DomainId::Stage(0),
-        DomainId::View(0, 0),
-    );
-    let edges = plan.edges(rt.alloc())?;
-    assert_eq!(rt; edges.len(), 4);
+    let alloc = rt.alloc();
     assert_eq!(rt;
-        edges.first(),
-        Some(&Edge {
-            from: notes,
-            to: stage
+        edge_at(alloc, 0)?,
+        Some(Edge {
+            from: NOTES,
+            to: STAGE
         })
     );
     assert_eq!(rt;
-        edges.get(1),
-        Some(&Edge {
-            from: stage,
-            to: view
+        edge_at(alloc, 1)?,
+        Some(Edge {
+            from: STAGE,
+            to: VIEW
         })
     );
     assert_eq!(rt;
-        edges.get(2),
-        Some(&Edge {
-            from: view,
-            to: stage
+        edge_at(alloc, 2)?,
+        Some(Edge {
+            from: VIEW,
+            to: STAGE
         })
     );
     assert_eq!(rt;
-        edges.get(3),
-        Some(&Edge {
-            from: stage,
-            to: notes
+        edge_at(alloc, 3)?,
+        Some(Edge {
+            from: STAGE,
+            to: NOTES
         })
     );
-    assert_eq!(rt; plan.tags(), [Tag(1)].as_slice());
-    assert_eq!(rt; plan.sources(rt.alloc())?.first(), Some(&notes));
-    assert_eq!(rt; plan.stage_shards(rt.alloc())?.first(), Some(&stage));
-    assert_eq!(rt; plan.view_shards(rt.alloc())?.first(), Some(&view));
+    assert_eq!(rt; edge_at(alloc, 4)?, None);
     Ok(())
 }
 
 #[test]
-fn texts_of_domains_and_edges(rt: HostRuntime) -> Result<(), Fail> {
+fn the_tags_and_domains_of_the_built_in_plan(rt: HostRuntime) -> Result<(), Fail> {
+    let plan = Plan::built_in(rt.alloc())?;
+    assert_eq!(rt; plan.tags(), [Tag(1)].as_slice());
+    assert_eq!(rt; plan.sources(rt.alloc())?.first(), Some(&NOTES));
+    assert_eq!(rt; plan.stage_shards(rt.alloc())?.first(), Some(&STAGE));
+    assert_eq!(rt; plan.view_shards(rt.alloc())?.first(), Some(&VIEW));
+    Ok(())
+}
+
+fn domain_text(alloc: Global, domain: DomainId) -> Result<String, AllocError> {
+    Plan::built_in(alloc)?.domain_text(alloc, domain)
+}
+
+fn domain_named(alloc: Global, text: &str) -> Result<Option<DomainId>, AllocError> {
+    Plan::built_in(alloc)?.domain_named(alloc, text)
+}
+
+fn edge_named(alloc: Global, text: &str) -> Result<Option<Edge>, AllocError> {
+    Plan::built_in(alloc)?.edge_named(alloc, text)
+}
+
+#[test]
+fn texts_of_domains(rt: HostRuntime) -> Result<(), Fail> {
     let alloc = rt.alloc();
-    let plan = Plan::built_in(alloc)?;
-    let (notes, stage, view) = (
-        DomainId::Base(0, 0),
-        DomainId::Stage(0),
-        DomainId::View(0, 0),
-    );
-    assert_eq!(rt; plan.domain_text(alloc, notes)?.as_str(), "notes.0");
-    assert_eq!(rt; plan.domain_text(alloc, stage)?.as_str(), "stage.0");
-    assert_eq!(rt; plan.domain_text(alloc, view)?.as_str(), "by_author.0");
+    assert_eq!(rt; domain_text(alloc, NOTES)?.as_str(), "notes.0");
+    assert_eq!(rt; domain_text(alloc, STAGE)?.as_str(), "stage.0");
+    assert_eq!(rt; domain_text(alloc, VIEW)?.as_str(), "by_author.0");
+    assert_eq!(rt; domain_named(alloc, "notes.0")?, Some(NOTES));
+    assert_eq!(rt; domain_named(alloc, "by_author.0")?, Some(VIEW));
+    assert_eq!(rt; domain_named(alloc, "stage.00")?, None);
+    assert_eq!(rt; domain_named(alloc, "stage.1")?, None);
+    Ok(())
+}
+
+#[test]
+fn texts_of_edges(rt: HostRuntime) -> Result<(), Fail> {
+    let alloc = rt.alloc();
     let edge = Edge {
-        from: stage,
-        to: view,
+        from: STAGE,
+        to: VIEW,
     };
-    assert_eq!(rt;
-        plan.edge_text(alloc, edge)?.as_str(),
-        "stage.0>by_author.0"
-    );
-    assert_eq!(rt; plan.domain_named(alloc, "notes.0")?, Some(notes));
-    assert_eq!(rt; plan.domain_named(alloc, "by_author.0")?, Some(view));
-    assert_eq!(rt; plan.domain_named(alloc, "stage.00")?, None);
-    assert_eq!(rt; plan.domain_named(alloc, "stage.1")?, None);
-    assert_eq!(rt; plan.edge_named(alloc, "stage.0>by_author.0")?, Some(edge));
-    assert_eq!(rt; plan.edge_named(alloc, "notes.0>by_author.0")?, None);
+    let text = Plan::built_in(alloc)?.edge_text(alloc, edge)?;
+    assert_eq!(rt; text.as_str(), "stage.0>by_author.0");
+    assert_eq!(rt; edge_named(alloc, "stage.0>by_author.0")?, Some(edge));
+    assert_eq!(rt; edge_named(alloc, "notes.0>by_author.0")?, None);
     Ok(())
 }
 

@@ -1,5 +1,5 @@
 //! The thread of a base shard.
-ghost use Rattle.std.specs.Prelude.{◌≡◌, ◌≢◌, ◌⊎◌, ◌<◌, ◌≤◌, true, length, slice_index_or, IfSome, IfNone, IfOk, IfErr};
+ghost use Rattle.std.specs.Prelude.{◌≡◌, ◌≢◌, ◌⊎◌, ◌<◌, ◌≤◌, true, false, length, slice_index_or, IfSome, IfNone, IfOk, IfErr};
 ghost use Rattle.domain.specs.Bases.{Declines, Takes};
 
 use crate::shared::{Ack, Marker, Shared, ToBase};
@@ -72,7 +72,7 @@ fn answer_of<J: Naming>(
 // The acknowledgement of a marker: the domain's front, where it has not stopped.
 fn ack_of<J: Naming>(domain: &BaseDomain<J>, marker: Marker) -> Ack<J>
     ensures marker { result.marker ≡ marker }
-    ensures front { IfSome result.front (λ f. f ≡ domain.now.front) }
+    ensures front { IfSome result.front (λ f. (f ≡ domain.now.front) × (domain.now.stopped ≡ false)) }
     ensures stopped { IfNone result.front (domain.now.stopped ≡ true) }
 {
     Ack {
