@@ -48,7 +48,7 @@ reached_at h [] j each = omega arith
 reached_at h (f ∷ fs) zero each = each.0.len
 reached_at h (f ∷ fs) (suc j) each = reached_at h fs j each.1
 
-line_within : (p : Layout) (h : List Item) (fs : List FrontView) → map (λ (f : FrontView). f.base) fs ≡ sources p → Each (IsReached h) fs → IsWithin p h (replicate p.stages (map (λ (f : FrontView). f.len) fs))
+pub line_within : (p : Layout) (h : List Item) (fs : List FrontView) → map (λ (f : FrontView). f.base) fs ≡ sources p → Each (IsReached h) fs → IsWithin p h (replicate p.stages (map (λ (f : FrontView). f.len) fs))
 line_within p h fs is each =
     let line = map (λ (f : FrontView). f.len) fs in
     record {

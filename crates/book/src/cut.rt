@@ -160,6 +160,29 @@ fn line_of_fronts<J: Naming>(
 }
 
 impl<J: Naming> Cut<J> {
+    /// The cut at which each stage shard has these fronts, one of each source. Refused for want of
+    /// memory alone.
+    pub fn even(
+        alloc: Global,
+        plan: &Plan,
+        part: &Part<J>,
+        fronts: &[Front<J>],
+    ) -> Result<Cut<J>, AllocError>
+        requires plan { plan.now ≡ J.plan }
+        requires sources { map (λ (f : FrontView). f.base) fronts.now ≡ sources J.plan }
+        ensures lengths { IfOk result (λ c. c.lengths ≡ replicate J.plan.stages (map (λ (f : FrontView). f.len) fronts.now)) }
+        ensures seen { IfOk result (λ c. IsPrefix part.now c.seen) }
+        ensures fronts { IfOk result (λ c. Each (IsReached c.seen) fronts.now) }
+    {
+        let (line, seen) = line_of_fronts(alloc, part, fronts)?;
+        let lengths = Lengths::even(alloc, plan.stages(), line.as_slice())?;
+        Ok(Cut {
+            lengths,
+            seen,
+            of: PhantomData,
+        })
+    }
+
     /// Takes the front's length for its source at a stage shard. The other fronts stay.
     pub fn advance(&mut self, stage: usize, source: usize, front: &Front<J>)
         requires stage { stage < J.plan.stages }

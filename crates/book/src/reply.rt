@@ -49,6 +49,7 @@ impl<J: Naming> Written<J> {
     /// Whether it is the reply to this write. Cost: the length of the entry.
     pub fn is_of(&self, session: u64, number: u64, base: usize, entry: &Entry) -> bool
         ensures same { IsTrue result → (self.now.session ≡ session) × (self.now.number ≡ number) × (self.now.base ≡ base) × (self.now.entry ≡ change_of entry.now) }
+        ensures sure { (self.now.session ≡ session) → (self.now.number ≡ number) → (self.now.base ≡ base) → (self.now.entry ≡ change_of entry.now) → IsTrue result }
     {
         self.session == session
             && self.number == number
@@ -109,6 +110,8 @@ impl<J: Naming> Front<J> {
     pub fn settle(&mut self, reply: &Written<J>) -> bool
         requires whole { IsWhole self.old }
         requires base { self.old.base ≡ reply.now.base }
+        ensures base { self.new.base ≡ self.old.base }
+        ensures len { self.new.len ≡ self.old.len }
         ensures sure { self.old.len ≤ reply.now.index → IsTrue result }
         ensures told { MatchBool result (IsAfter self.old.seen (write reply.now.session reply.now.number reply.now.base reply.now.entry) reply.now.base reply.now.index self.new.seen) (self.new ≡ self.old) }
     {

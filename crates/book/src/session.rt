@@ -133,13 +133,6 @@ impl<J: Naming> SessionWord<J> {
         self.number
     }
 
-    /// How often it has answered.
-    pub fn answered(&self) -> u64
-        ensures answered { result ≡ self.now.answered }
-    {
-        self.answered
-    }
-
     /// Of what the two have seen one begins the other. Afterwards both have seen the same, which is no less than either had.
     pub fn meet(&mut self, other: &mut SessionWord<J>)
         ensures one { IsPrefix self.old.seen other.old.seen ⊎ IsPrefix other.old.seen self.old.seen }
@@ -171,6 +164,7 @@ impl<J: Naming> SessionWord<J> {
         requires rows { rows.now.items ≡ answer_of J.plan (fronts J.plan cut) view (datum_of key.now) }
         requires room { self.old.answered + 1 < 2 ^ 64 }
         ensures legal { IsLegal J.plan J.sessions self.new.seen }
+        ensures others { IsPrefix cut.seen self.new.seen }
         ensures told { MatchBool result (IsAnswered J.plan self.old (read self.old.session view (datum_of key.now) rows.now.items cut.lengths) (with_floor self.old.floors view shard cut.lengths) self.new) (IsStolen J.plan self.old self.new) }
     {
         let Cut {

@@ -1,5 +1,5 @@
 //! The domain of one base shard.
-ghost use Rattle.std.specs.Prelude.{◌≡◌, ◌⊎◌, ℕ, ◌<◌, ◌≤◌, List, true, false, length, replicate, slice_index_or, IfOk, OnOk, IfErr, IfSome, IfNone, IsTrue, IsFalse, None, Some};
+ghost use Rattle.std.specs.Prelude.{◌≡◌, ◌⊎◌, ℕ, ◌<◌, ◌≤◌, List, true, false, length, replicate, slice_index_or, IfOk, OnOk, IfErr, IsErr, IfSome, IsSome, IfNone, IsTrue, IsFalse, None, Some};
 ghost use Rattle.plan.specs.Layouts.{table_at};
 ghost use Rattle.book.specs.Entries.{change_of};
 ghost use Rattle.book.specs.Logs.{Change};
@@ -112,6 +112,8 @@ impl<J: Naming> BaseDomain<J> {
     pub fn receive(&mut self, alloc: Global, book: &Book<J>, write: Write<J>) -> Option<Reply<J>>
         requires base { write.base ≡ self.old.front.base }
         ensures base { self.new.front.base ≡ self.old.front.base }
+        ensures stopped { self.old.stopped ≡ true → (self.new ≡ self.old) × IsSome result × IfSome result (λ r. IsErr r × IfErr r (λ d. d.refused ≡ Refused.Stopped)) }
+        ensures front { IfSome result (λ r. IfErr r (λ d. d.front.base ≡ write.base)) }
         ensures ignored { IfNone result (self.new ≡ self.old) }
         ensures late { IfNone result ((length self.old.next ≤ write.session) ⊎ (write.number < slice_index_or self.old.next write.session 0)) }
         ensures accepted { IfSome result (λ r. IfOk r (λ w. Takes J.plan self.old write w self.new)) }
@@ -168,6 +170,7 @@ impl<J: Naming> BaseDomain<J> {
         requires why { refusal_at J.plan self.old.front write.entry ≡ Some refused }
         requires rises { slice_index_or self.old.next write.session 0 ≤ write.number }
         ensures base { self.new.front.base ≡ self.old.front.base }
+        ensures front { result.front.base ≡ self.old.front.base }
         ensures answer { IsAnswer write result }
         ensures outcome { ((result.refused ≡ refused) × (self.new ≡ self.old)) ⊎ Stops self.old result self.new }
     {
@@ -201,6 +204,7 @@ impl<J: Naming> BaseDomain<J> {
         requires rises { slice_index_or self.old.next write.session 0 ≤ write.number }
         requires running { self.old.stopped ≡ false }
         ensures base { self.new.front.base ≡ self.old.front.base }
+        ensures front { IfErr result (λ d. d.front.base ≡ self.old.front.base) }
         ensures accepted { IfOk result (λ w. Takes J.plan self.old write w self.new) }
         ensures answer { IfErr result (λ d. IsAnswer write d) }
         ensures declined { IfErr result (λ d. ((d.refused ≡ Refused.NoMemory) × (self.new ≡ self.old)) ⊎ Stops self.old d self.new) }

@@ -96,7 +96,8 @@ impl<J: Naming> Write<J> {
 impl<J: Naming> Declined<J> {
     /// Whether it is the answer to this write. Cost: the length of the entry.
     pub fn is_of(&self, session: usize, number: u64, base: usize, entry: &Entry) -> bool
-        ensures { IsTrue result → (self.now.session ≡ session) × (self.now.number ≡ number) × (self.now.front.base ≡ base) × (self.now.entry ≡ change_of entry.now) }
+        ensures same { IsTrue result → (self.now.session ≡ session) × (self.now.number ≡ number) × (self.now.front.base ≡ base) × (self.now.entry ≡ change_of entry.now) }
+        ensures sure { (self.now.session ≡ session) → (self.now.number ≡ number) → (self.now.front.base ≡ base) → (self.now.entry ≡ change_of entry.now) → IsTrue result }
     {
         self.session == session
             && self.number == number

@@ -47,4 +47,5 @@ pub record IsFenced (p : Layout) (old new : Caller) : Type 0 where
 pub record IsUnfenced (old new : Caller) (r : Refused) : Type 0 where
   pub after : new ≡ record { session = old.session; number = new.number; stolen = new.stolen; seen = new.seen; accepted = old.accepted; floors = old.floors }
   pub grown : IsPrefix old.seen new.seen
+  pub number : (new.number ≡ old.number) ⊎ (new.number ≡ old.number + 1)
   pub why : ((r ≡ NoMemory) ⊎ (r ≡ Stopped) ⊎ (r ≡ Behind)) × (new.seen ≡ old.seen) × (new.stolen ≡ old.stolen) ⊎ (r ≡ Stolen) × (new.stolen ≡ true)

@@ -60,9 +60,10 @@ pub record IsRefused (old new : Caller) : Type 0 where
   pub after : new ≡ record { session = old.session; number = new.number; stolen = old.stolen; seen = new.seen; accepted = old.accepted; floors = old.floors }
   pub number : (new.number ≡ old.number) ⊎ (new.number ≡ old.number + 1)
 
--- it was refused for a reason of the store, or the log decided
+-- it was refused for a reason of the store, or the log decided, and then the call has taken its number
 pub record IsUntaken (p : Layout) (old new : Caller) (b : ℕ) (e : Change) (r : Refused) : Type 0 where
   pub rest : IsRefused old new
+  pub counted : (r ≡ NoMemory) ⊎ (r ≡ Stopped) ⊎ (new.number ≡ old.number + 1)
   pub why : IsAnswer p old.seen old.session old.number b e r new.seen
 
 -- the same, of the table that was named, or the call was refused for what it asks and nothing changed

@@ -1,5 +1,5 @@
 //! Fences of a session.
-ghost use Rattle.std.specs.Prelude.{◌≡◌, ◌⊎◌, ◌+◌, ◌<◌, ◌≤◌, ℕ, length, map, IfOk, OnOk, IfErr, IfSome, Some, Ok};
+ghost use Rattle.std.specs.Prelude.{◌≡◌, ◌⊎◌, ◌+◌, ◌<◌, ◌≤◌, ℕ, length, map, IfOk, OnOk, IfErr, IfSome, Some};
 ghost use mathlib.Core.List.{IsPrefix};
 ghost use Rattle.row.specs.Bags.{Each};
 ghost use Rattle.book.specs.Fronts.{FrontView};
@@ -23,15 +23,16 @@ impl<J: Naming> Session<J> {
 
     /// Raises the floors, as one step: afterwards each floor has every entry of a source that the
     /// session had seen, and each of its own accepted writes there. It looks at each source's log,
-    /// sends a marker through each source's thread, and waits for them.
+    /// sends a marker to each source's thread, and waits for their fronts.
     ///
     /// Refused with `Stolen` where the session's call numbers are spent or its word was moved by
     /// another, `Stopped` where a source or the system has stopped, `Behind` where a source had
     /// less than was seen of it, or `NoMemory`. A refused fence leaves the floors and what was
-    /// accepted, and but for `Stolen` what was seen. Cost: a way through one queue and back for
-    /// each source, and a cut for each shard of each view.
+    /// accepted, and but for `Stolen` what was seen. Cost: one message and one
+    /// acknowledgement for each source, and a cut for each shard of each view.
     pub fn fence<R: Wait>(&mut self, rt: &R, alloc: Global) -> Result<(), Refused>
         ensures legal { IsLegal J.plan J.sessions self.new.seen }
+        ensures spent { stolen_refusal self.old ≡ Some Refused.Stolen → (result ≡ Err Refused.Stolen) × (self.new ≡ self.old) }
         ensures fenced { OnOk result (IsFenced J.plan self.old self.new) }
         ensures refused { IfErr result (λ e. (stolen_refusal self.old ≡ Some e) × (self.new ≡ self.old) ⊎ IsUnfenced self.old self.new e) }
     {
@@ -41,6 +42,7 @@ impl<J: Naming> Session<J> {
     }
 
     fn fence_sources<R: Wait>(&mut self, rt: &R, alloc: Global) -> Result<(), Refused>
+        ensures spent { stolen_refusal self.old ≡ Some Refused.Stolen → (result ≡ Err Refused.Stolen) × (self.new ≡ self.old) }
         ensures fenced { OnOk result (IsFenced J.plan self.old self.new) }
         ensures refused { IfErr result (λ e. (stolen_refusal self.old ≡ Some e) × (self.new ≡ self.old) ⊎ IsUnfenced self.old self.new e) }
     {

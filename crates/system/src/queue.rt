@@ -5,13 +5,13 @@ use std::sync::{Condvar, Mutex, Wait};
 
 /// Why nothing was put.
 #[derive(Clone, Copy, PartialEq, Eq)]
-pub enum Full {
+pub enum PutError {
     Closed,
     NoMemory,
 }
 
 #[derive(Drop)]
-struct Line<T: Drop> {
+struct Items<T: Drop> {
     items: VecDeque<T>,
     closed: bool,
 }
@@ -19,7 +19,7 @@ struct Line<T: Drop> {
 /// A queue of many senders and one receiver.
 #[derive(Drop)]
 pub struct Queue<T: Drop> {
-    line: Mutex<Line<T>>,
+    line: Mutex<Items<T>>,
     moved: Condvar,
 }
 
@@ -27,7 +27,7 @@ impl<T: Drop> Queue<T> {
     /// A queue with no item. It takes no memory.
     pub fn new(alloc: Global) -> Queue<T> {
         Queue {
-            line: Mutex::new(Line {
+            line: Mutex::new(Items {
                 items: VecDeque::new(alloc),
                 closed: false,
             }),
@@ -37,16 +37,22 @@ impl<T: Drop> Queue<T> {
 
     /// Puts the item last, and wakes the receiver. Refused where the queue is closed, or for want
     /// of memory; the item is then gone.
-    pub fn put<R: Wait>(&self, rt: &R, item: T) -> Result<(), Full> {
-        let mut line = self.line.lock(rt);
-        if line.closed {
-            return Err(Full::Closed);
-        }
-        if line.items.push_back(item).is_err() {
-            return Err(Full::NoMemory);
-        }
+    pub fn put<R: Wait>(&self, rt: &R, item: T) -> Result<(), PutError> {
+        self.push(rt, item)?;
         self.moved.notify_one();
         Ok(())
+    }
+
+    // The lock is free again before the receiver wakes.
+    fn push<R: Wait>(&self, rt: &R, item: T) -> Result<(), PutError> {
+        let mut line = self.line.lock(rt);
+        if line.closed {
+            return Err(PutError::Closed);
+        }
+        match line.items.push_back(item) {
+            Ok(()) => Ok(()),
+            Err(_) => Err(PutError::NoMemory),
+        }
     }
 
     /// Waits for an item and takes the first. `None` once the queue is closed and empty.

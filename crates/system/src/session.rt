@@ -1,5 +1,5 @@
-//! A caller's end of the store.
-ghost use Rattle.std.specs.Prelude.{◌≡◌, ◌⊎◌, ◌+◌, ◌<◌, ◌≤◌, ℕ, true, length, replicate, slice_get, slice_set, IfOk, OnOk, IfErr, IfSome, IfNone, IsTrue, IsFalse, Some, None, []};
+//! Sessions: what one caller holds of the store.
+ghost use Rattle.std.specs.Prelude.{◌≡◌, ◌⊎◌, ◌+◌, ◌<◌, ◌≤◌, ℕ, true, false, length, replicate, slice_get, slice_set, IfOk, OnOk, IfErr, IfSome, IfNone, IsTrue, IsFalse, Some, None, []};
 ghost use mathlib.Core.List.{IsPrefix};
 ghost use Rattle.row.specs.Cells.{shard};
 ghost use Rattle.plan.specs.Kinds.{is_row};
@@ -40,7 +40,7 @@ pub struct Accepted {
     pub index: u64,
 }
 
-/// One caller's end of the store. It can move to another thread.
+/// What one caller holds of the store. It can move to another thread.
 #[derive(Drop)]
 pub struct Session<J: Naming> {
     pub(crate) word: SessionWord<J>,
@@ -76,6 +76,7 @@ impl<J: Naming> Session<J> {
         requires number { number < J.sessions }
         ensures session { IfOk result (λ s. s.session ≡ number) }
         ensures number { IfOk result (λ s. s.number ≡ 0) }
+        ensures unspent { IfOk result (λ s. s.stolen ≡ false) }
         ensures seen { IfOk result (λ s. s.seen ≡ start.now.seen) }
         ensures accepted { IfOk result (λ s. s.accepted ≡ replicate (base_count J.plan) None) }
         ensures floors { IfOk result (λ s. (v j : ℕ) → floor_at s.floors v j ≡ []) }
@@ -116,8 +117,8 @@ impl<J: Naming> Session<J> {
     /// `Stopped` where the base shard or the system has stopped, `Duplicate` where its key is
     /// there, `LogFull`; `NoMemory` at any place after `BadRow`. A refused call leaves the floors
     /// and what was accepted; after `Duplicate` and `LogFull` the session has seen the log that
-    /// decided, else what it had. Cost: a look at each table's name, two copies of the row, and a
-    /// way through one queue and back.
+    /// decided, else what it had. Cost: a look at each table's name, two copies of the row and
+    /// one of its key, one message and one reply.
     pub fn insert<R: Wait>(
         &mut self,
         rt: &R,
@@ -126,6 +127,7 @@ impl<J: Naming> Session<J> {
         row: Row,
     ) -> Result<Accepted, Refused>
         ensures legal { IsLegal J.plan J.sessions self.new.seen }
+        ensures spent { stolen_refusal self.old ≡ Some Refused.Stolen → (result ≡ Err Refused.Stolen) × (self.new ≡ self.old) }
         ensures accepted { IfOk result (λ a. Accepts J.plan self.old self.new table.now (inserts row) a) }
         ensures refused { IfErr result (λ e. Declines J.plan self.old self.new table.now (inserts row) e) }
     {
@@ -141,6 +143,7 @@ impl<J: Naming> Session<J> {
         table: &str,
         row: Row,
     ) -> Result<Accepted, Refused>
+        ensures spent { stolen_refusal self.old ≡ Some Refused.Stolen → (result ≡ Err Refused.Stolen) × (self.new ≡ self.old) }
         ensures accepted { IfOk result (λ a. Accepts J.plan self.old self.new table.now (inserts row) a) }
         ensures refused { IfErr result (λ e. Declines J.plan self.old self.new table.now (inserts row) e) }
     {
@@ -211,6 +214,7 @@ impl<J: Naming> Session<J> {
         ensures this { IsPrefix self.old.seen self.new.seen }
         ensures that { IsPrefix other.old.seen other.new.seen }
         ensures rest { IsRefused self.old self.new × IsRefused other.old other.new }
+        ensures numbers { (self.new.number ≡ self.old.number) × (other.new.number ≡ other.old.number) }
     {
         self.seen.meet(&mut other.seen);
         self.seen.is_legal();

@@ -3,7 +3,7 @@ ghost use Rattle.std.specs.Prelude.{◌≡◌, ◌⊎◌, ◌<◌, IfErr};
 ghost use Rattle.row.specs.Bags.{Each};
 ghost use Rattle.book.specs.Places.{base_count, sources};
 
-use crate::queue::{Full, Mailbox, Queue};
+use crate::queue::{Mailbox, PutError, Queue};
 use book::book::Book;
 use book::front::Front;
 use book::law::Naming;
@@ -118,8 +118,8 @@ impl<J: Naming> Shared<J> {
         };
         match queue.put(rt, message) {
             Ok(()) => Ok(()),
-            Err(Full::Closed) => Err(Refused::Stopped),
-            Err(Full::NoMemory) => Err(Refused::NoMemory),
+            Err(PutError::Closed) => Err(Refused::Stopped),
+            Err(PutError::NoMemory) => Err(Refused::NoMemory),
         }
     }
 

@@ -1,5 +1,5 @@
 //! The store as it runs: its threads, and the sessions that it gives.
-ghost use Rattle.std.specs.Prelude.{◌≡◌, ◌⊎◌, ◌+◌, ◌<◌, ℕ, IfOk, OnOk, IfErr, length, []};
+ghost use Rattle.std.specs.Prelude.{◌≡◌, ◌⊎◌, ◌+◌, ◌<◌, ◌≤◌, ℕ, false, IfOk, OnOk, IfErr, OnErr, length, []};
 ghost use Rattle.plan.specs.Layouts.{table_at};
 ghost use Rattle.book.specs.Histories.{floor_at};
 
@@ -17,9 +17,6 @@ use std::alloc::Global;
 use std::marker::Model;
 use std::sync::{Arc, Wait};
 use std::thread::{self, JoinHandle, Threads};
-
-/// The most sessions of a system.
-pub const MOST_SESSIONS: usize = 16;
 
 /// A running store. Its threads end with `stop`.
 #[derive(Drop)]
@@ -126,10 +123,13 @@ impl<J: Naming + 'static> System<J> {
     /// given, or `NoMemory`.
     pub fn session(&mut self, alloc: Global) -> Result<Session<J>, Refused>
         ensures only { IfErr result (λ e. (e ≡ Refused.NoSessionLeft) ⊎ (e ≡ Refused.NoMemory)) }
+        ensures spent { IfErr result (λ e. e ≡ Refused.NoSessionLeft → J.sessions ≤ self.old) }
+        ensures kept { OnErr result (self.new ≡ self.old) }
         ensures next { OnOk result (self.new ≡ self.old + 1) }
         ensures left { OnOk result (self.old < J.sessions) }
         ensures session { IfOk result (λ s. s.session ≡ self.old) }
         ensures number { IfOk result (λ s. s.number ≡ 0) }
+        ensures unspent { IfOk result (λ s. s.stolen ≡ false) }
         ensures seen { IfOk result (λ s. s.seen ≡ []) }
         ensures floors { IfOk result (λ s. (v j : ℕ) → floor_at s.floors v j ≡ []) }
     {

@@ -1,6 +1,6 @@
 use Rattle.std.proofs.Common.{◌+◌, ap, sym, refl}
 use Rattle.book.proofs.Prefixes.{prefix_trans}
-use Rattle.book.proofs.Steps.{told_yes, told_no}
+use Rattle.book.proofs.Steps.{seen_more, told_yes, told_no}
 use Rattle.book.proofs.Sessions.{session_later, read_asked, read_told, answered, stolen}
 use Rattle.book.proofs.session.SessionWord.answer.Goals as goal
 
@@ -46,3 +46,9 @@ returns-else-found-answered-clause-told g c =
     let pre = prefix_trans _ c.learn.new.seen.log _ c.learn.ensures.grown t.grown in
     let found = told_no _ _ _ _ _ _ _ _ c.learn.new.seen.log c.try_add-found.new.seen.log t.told (ap (λ b. b + c.self.inside.number) c.bases.ensures.bases) refl c.if-found-answered.false in
     rw (← c.self.view_is) (stolen p n c.self.inside.seen.log c.try_add-found.new.seen.log c.self.inside.number c.self.inside.answered c.try_add-found.result c.self.inside.floors pre (session_later p n c.self.inside.seen.log c.try_add-found.new.seen.log _ _ _ c.self.invariant.2 pre) c.if-found-answered.false found)
+
+pub returns-then-found-answered-clause-others : goal.returns-then-found-answered-clause-others
+returns-then-found-answered-clause-others g c = rw (← c.cut.view_is) (seen_more c.cut.inside.seen.log c.try_add-found.new.seen.log (prefix_trans _ c.learn.new.seen.log _ c.learn.ensures.others c.try_add-found.ensures.grown))
+
+pub returns-else-found-answered-clause-others : goal.returns-else-found-answered-clause-others
+returns-else-found-answered-clause-others g c = rw (← c.cut.view_is) (seen_more c.cut.inside.seen.log c.try_add-found.new.seen.log (prefix_trans _ c.learn.new.seen.log _ c.learn.ensures.others c.try_add-found.ensures.grown))

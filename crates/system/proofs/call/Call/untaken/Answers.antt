@@ -5,7 +5,7 @@ use Rattle.system.proofs.call.Call.untaken.Goals as goal
 
 pub returns-clause-untaken : goal.returns-clause-untaken
 returns-clause-untaken g c =
-    let own = c.if-not-is_of.ensures refl in
+    let own = c.if-not-is_of.ensures.same refl in
     let told = c.in_ok-seen.ensures.told in
     let refused = c.refused-refused.ensures in
     let log = rw c.into_front.ensures.front at told.2 in
