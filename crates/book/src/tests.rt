@@ -1,12 +1,15 @@
 //! Entries, a book that opens, and words that two writers share.
-ghost use Rattle.std.specs.Prelude.{◌≡◌, [], ◌∷◌, IfOk, codes, pos};
+ghost use Rattle.std.specs.Prelude.{◌≡◌, ℕ, [], ◌∷◌, IfOk, codes, pos};
 ghost use Rattle.row.specs.Cells.{int, text};
 ghost use Rattle.plan.specs.Recipes.{notes_plan};
+ghost use Rattle.book.specs.Histories.{floor_at};
 
 use crate::book::{Book, Opened};
+use crate::cut::Cut;
 use crate::entry::Entry;
 use crate::front::Front;
 use crate::law::Naming;
+use crate::session::SessionWord;
 use plan::plan::Plan;
 use row::row::Row;
 use row::value::Value;
@@ -84,4 +87,49 @@ fn append_first<J: Naming>(book: &Book<J>, mut front: Front<J>, session: u64, ro
 {
     let entry = Entry::Insert(row);
     front.append(book, session, 0, &entry)
+}
+
+#[test]
+fn one_of_two_answers_is_taken(rt: HostRuntime) -> Result<(), Fail> {
+    let plan = Plan::built_in(rt.alloc())?;
+    let opened = Opened::new(rt.alloc(), &plan, 1)?;
+    answered_by_two::<Brand, _>(&rt, rt.alloc(), opened, &plan)
+}
+
+fn answered_by_two<J: Naming, R: Abort>(
+    rt: &R,
+    alloc: Global,
+    opened: Opened,
+    plan: &Plan,
+) -> Result<(), Fail>
+    requires book { opened.book ≡ J.book }
+    requires plan { (opened.plan ≡ J.plan) × (plan.now ≡ J.plan) }
+    requires sessions { (opened.sessions ≡ J.sessions) × (J.sessions ≡ 1) }
+    requires notes { J.plan ≡ notes_plan }
+{
+    let (book, front) = opened.named::<J>(0);
+    let word = SessionWord::first(alloc, plan, 0, &front)?;
+    let other = SessionWord::first(alloc, plan, 0, &front)?;
+    assert!(rt; answer_nothing(alloc, plan, &book, &front, word)?);
+    assert!(rt; !answer_nothing(alloc, plan, &book, &front, other)?);
+    Ok(())
+}
+
+// Answers a read of key 7 over the empty front of the only source.
+fn answer_nothing<J: Naming>(
+    alloc: Global,
+    plan: &Plan,
+    book: &Book<J>,
+    front: &Front<J>,
+    mut word: SessionWord<J>,
+) -> Result<bool, AllocError>
+    requires plan { (plan.now ≡ J.plan) × (J.plan ≡ notes_plan) }
+    requires front { (front.now.base ≡ 0) × (front.now.len ≡ 0) }
+    requires word { (word.answered ≡ 0) × ((v j : ℕ) → floor_at word.floors v j ≡ []) }
+{
+    let mut fronts = Vec::new(alloc);
+    fronts.push(front.again())?;
+    let cut = Cut::even(alloc, plan, &front.part(), fronts.as_slice())?;
+    let rows = Vec::new(alloc);
+    Ok(word.answer(book, 0, 0, &Value::Int(7), &rows, cut))
 }
