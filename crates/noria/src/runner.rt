@@ -3,8 +3,8 @@ ghost use Rattle.std.specs.Prelude.{◌≡◌};
 
 use crate::fault::Fault;
 use crate::texts::Texts;
-use book::law::Naming;
 use book::book::Opened;
+use book::law::Naming;
 use plan::kinds::Kind;
 use plan::plan::Plan;
 use row::refused::Refused;
