@@ -64,7 +64,7 @@ impl<J: Naming> Model for Session<J> {
 
 impl<J: Naming> Session<J> {
     ghost use Rattle.system.specs.Callers.{Caller};
-    ghost use Rattle.system.specs.Inserts.{Accepts, Declines, IsRefused, IsTaken, IsUntaken, stolen_refusal};
+    ghost use Rattle.system.specs.Inserts.{Accepts, Declines, IsRefused, IsTaken, IsUntaken, call_refusal, stolen_refusal};
 
     /// The session of this number, which has made no call.
     pub(crate) fn new(
@@ -128,6 +128,7 @@ impl<J: Naming> Session<J> {
     ) -> Result<Accepted, Refused>
         ensures legal { IsLegal J.plan J.sessions self.new.seen }
         ensures spent { stolen_refusal self.old ≡ Some Refused.Stolen → (result ≡ Err Refused.Stolen) × (self.new ≡ self.old) }
+        ensures why { IfSome (call_refusal J.plan self.old table.now (inserts row)) (λ e. result ≡ Err e) }
         ensures accepted { IfOk result (λ a. Accepts J.plan self.old self.new table.now (inserts row) a) }
         ensures refused { IfErr result (λ e. Declines J.plan self.old self.new table.now (inserts row) e) }
     {
@@ -144,6 +145,7 @@ impl<J: Naming> Session<J> {
         row: Row,
     ) -> Result<Accepted, Refused>
         ensures spent { stolen_refusal self.old ≡ Some Refused.Stolen → (result ≡ Err Refused.Stolen) × (self.new ≡ self.old) }
+        ensures why { IfSome (call_refusal J.plan self.old table.now (inserts row)) (λ e. result ≡ Err e) }
         ensures accepted { IfOk result (λ a. Accepts J.plan self.old self.new table.now (inserts row) a) }
         ensures refused { IfErr result (λ e. Declines J.plan self.old self.new table.now (inserts row) e) }
     {
