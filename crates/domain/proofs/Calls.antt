@@ -1,21 +1,21 @@
 -- Numbers of calls, and what a domain's check says of its log.
-use Rattle.std.proofs.Common.{◌≡◌, ℕ, ◌+◌, ◌<◌, ◌≤◌, ◌==◌, nat_le, Bool, true, false, cond, List, [], ◌∷◌, ◌++◌, length, take_all, slice_index_or, slice_set, Option, Some, None, Result, Ok, Err, IfErr, refl, ap, sym, ◌∙◌, subst, arith, ◌⊎◌, inl, inr}
+use Rattle.std.proofs.Common.{◌≡◌, ℕ, ◌+◌, ◌<◌, ◌≤◌, ◌==◌, Bool, true, false, List, [], ◌∷◌, ◌++◌, length, take_all, slice_index_or, slice_set, Option, Some, None, Result, Ok, Err, IfErr, refl, ap, sym, ◌∙◌, subst, arith, ◌⊎◌, inl, inr}
 use Rattle.std.proofs.lemmas.Bool.Decides.{nat_tests}
 use Rattle.std.proofs.lemmas.List.{get_or-set_other}
 use Rattle.std.proofs.lemmas.Grind.{get_or-set_at}
 use Rattle.row.specs.Bags.{Each}
-use Rattle.row.specs.Cells.{cell_at}
 use Rattle.row.proofs.BagLemmas.{Each-weaker}
 use Rattle.row.specs.declared.refused.Refused.{Refused}
-use Rattle.row.specs.declared.refused.Refused.TheVariants.{NoMemory, Duplicate, Absent, LogFull}
+use Rattle.row.specs.declared.refused.Refused.TheVariants.{NoMemory}
 use Rattle.plan.specs.Layouts.{Layout}
-use Rattle.book.specs.Logs.{Change, inserts, deletes, updates, lawful, is_held, rows_of}
+use Rattle.book.specs.Logs.{Change}
 use Rattle.book.specs.Places.{layout_of}
 use Rattle.book.specs.Histories.{Author, log_of, authors_of}
-use Rattle.book.specs.Refusals.{full, refusal, refusal_over}
+use Rattle.book.specs.Refusals.{refusal, refusal_over}
 use Rattle.book.specs.Legal.{limit}
 use Rattle.book.specs.Fronts.{FrontView, entries, authors, IsAppended}
 use Rattle.book.proofs.Fronts.{length_authors}
+use Rattle.book.proofs.Lines.{each_push}
 use Rattle.base.specs.Shards.{Shard, IsAt, verdict}
 use Rattle.base.proofs.Fronts as stands
 use Rattle.domain.specs.Messages.{WriteView, DeclinedView, IsDecided}
@@ -39,10 +39,6 @@ raised next s m a within low below false is =
     let other : ¬ (a.session ≡ s) = λ (e : a.session ≡ s). absurd (grind (arith, nat_tests)) in
     rw (get_or-set_other next s a.session (m + 1) 0 other) below
 
-each_push : {X : Type 0} (P : X → Type 0) (xs : List X) (y : X) → Each P xs → P y → Each P (xs ++ y ∷ [])
-each_push P [] y h q = (q, tt)
-each_push P (x ∷ xs) y h q = (h.0, each_push P xs y h.1 q)
-
 pub numbers_next : (next : List ℕ) (s m : ℕ) (list : List Author) → s < length next → slice_index_or next s 0 ≤ m → Each (IsBelow next) list → Each (IsBelow (slice_set next s (m + 1))) (list ++ record { session = s; number = m } ∷ [])
 numbers_next next s m list within low each =
     let e : slice_index_or (slice_set next s (m + 1)) s 0 ≡ m + 1 = get_or-set_at next s s (m + 1) 0 refl within in
@@ -51,29 +47,6 @@ numbers_next next s m list within low each =
     (omega (arith, e))
 
 -- ---- refusals
-chosen_second : (b : Bool) (r : Refused) (o : Option Refused) → cond b (Some r) o ≡ None → (b ≡ false) × (o ≡ None)
-chosen_second true r o e = absurd cc
-chosen_second false r o e = (refl, e)
-
-chosen_first : (b : Bool) (r : Refused) (o : Option Refused) → cond b o (Some r) ≡ None → (b ≡ true) × (o ≡ None)
-chosen_first true r o e = (refl, e)
-chosen_first false r o e = absurd cc
-
-below_limit : (most n : ℕ) → full most n ≡ None → n < most
-below_limit most n e = let is = (chosen_second (nat_le most n) LogFull None e).0 in grind (arith, nat_tests)
-
--- what is not refused is lawful, and finds room
-pub unrefused : (key most : ℕ) (front : List Change) (e : Change) → refusal key most front e ≡ None → (lawful key front e ≡ true) × (length front < most)
-unrefused key most front (inserts r) h =
-    let c = chosen_second (is_held key (rows_of key front) (cell_at r key)) Duplicate (full most (length front)) h in
-    (rw c.0 refl, below_limit most (length front) c.1)
-unrefused key most front (deletes k) h =
-    let c = chosen_first (is_held key (rows_of key front) k) Absent (full most (length front)) h in
-    (c.0, below_limit most (length front) c.1)
-unrefused key most front (updates r) h =
-    let c = chosen_first (is_held key (rows_of key front) (cell_at r key)) Absent (full most (length front)) h in
-    (c.0, below_limit most (length front) c.1)
-
 -- the shard's refusal is that at the domain's front
 pub shard_refusal : (p : Layout) (sh : Shard) (f : FrontView) (next : List ℕ) (e : Change) → IsDomain p sh f next → refusal sh.key sh.limit (entries f) e ≡ refusal_at p f e
 shard_refusal p sh f next e d = ap (λ k. refusal k sh.limit (entries f) e) d.key ∙ ap (λ k. refusal (layout_of p f.base).key k (entries f) e) d.room
