@@ -45,6 +45,8 @@ pub enum Refused {
     CannotRead,
     #[error("the output cannot be written")]
     CannotWrite,
+    #[error("the plan cannot be served yet")]
+    NotYet,
 }
 
 impl Refused {
@@ -71,6 +73,7 @@ impl Refused {
             Refused::BadScript => 30,
             Refused::CannotRead => 31,
             Refused::CannotWrite => 32,
+            Refused::NotYet => 33,
         }
     }
 
@@ -97,6 +100,7 @@ impl Refused {
             Refused::BadScript => "BadScript",
             Refused::CannotRead => "CannotRead",
             Refused::CannotWrite => "CannotWrite",
+            Refused::NotYet => "NotYet",
         }
     }
 }

@@ -205,6 +205,7 @@ fn a_refusal_has_its_number_and_name(rt: HostRuntime) {
         (Refused::BadScript, 30, "BadScript"),
         (Refused::CannotRead, 31, "CannotRead"),
         (Refused::CannotWrite, 32, "CannotWrite"),
+        (Refused::NotYet, 33, "NotYet"),
     ] {
         assert_eq!(rt; refused.number(), number);
         assert_eq!(rt; refused.name(), name);
