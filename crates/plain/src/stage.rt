@@ -1,7 +1,6 @@
 //! The left rows and the right rows of a stage shard over a line.
 ghost use Rattle.std.specs.Prelude.{◌≡◌, ◌≢◌, ◌<◌, ◌≤◌, IfOk, length, take, drop, Some, None, true};
 ghost use Rattle.std.specs.List.{list_all};
-ghost use Rattle.row.specs.Cells.{has_shard};
 ghost use Rattle.plan.specs.Outputs.{pass};
 ghost use Rattle.plan.specs.Layouts.{table_at};
 ghost use Rattle.book.specs.Places.{side_count};
@@ -14,19 +13,7 @@ use plan::plan::Plan;
 use plan::stage::Side;
 use plan::table::Table;
 use row::row::Row;
-use row::value::shard_of;
 use std::alloc::{AllocError, Global};
-
-/// Whether the row has a cell in the column, of this shard of `shards`.
-fn has_shard(row: &Row, column: usize, shards: usize, shard: usize) -> bool
-    requires { shards ≢ 0 }
-    ensures { result ≡ has_shard column shards shard row.now }
-{
-    match row.get(column) {
-        Some(value) => shard_of(value, shards) == shard,
-        None => false,
-    }
-}
 
 /// The rows of the front whose stage key has the stage shard.
 fn stage_rows(
@@ -43,7 +30,7 @@ fn stage_rows(
     let stages = plan.stages();
     let column = side.key();
     let mut rows = rows_of(alloc, plan.table(side.table()).key(), front)?;
-    rows.retain(|row| has_shard(row, column, stages, stage));
+    rows.retain(|row| row.has_shard(column, stages, stage));
     Ok(rows)
 }
 

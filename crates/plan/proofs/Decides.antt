@@ -53,7 +53,7 @@ of_from : (least most n : ℕ) → IsFrom least most n → is_from least most n 
 of_from least most n h = and_both (nat_le least n) (nat_le n most) (of_le least n h.least_of) (of_le n most h.most_of)
 
 -- a test of each
-each_of : {X : Type 0} (p : X → Bool) (P : X → Type 0) → ((x : X) → p x ≡ true → P x) → (xs : List X) → list_all p xs ≡ true → Each P xs
+pub each_of : {X : Type 0} (p : X → Bool) (P : X → Type 0) → ((x : X) → p x ≡ true → P x) → (xs : List X) → list_all p xs ≡ true → Each P xs
 each_of p P f [] h = tt
 each_of p P f (x ∷ xs) h = (f x (and_left (p x) (list_all p xs) h), each_of p P f xs (and_right (p x) (list_all p xs) h))
 
@@ -61,13 +61,13 @@ of_each : {X : Type 0} (p : X → Bool) (P : X → Type 0) → ((x : X) → P x 
 of_each p P f [] h = refl
 of_each p P f (x ∷ xs) h = and_both (p x) (list_all p xs) (f x h.0) (of_each p P f xs h.1)
 
-new_of : (x : List ℕ) (xs : List (List ℕ)) → is_new x xs ≡ true → Each (λ y. bytes_eq x y ≡ false) xs
+pub new_of : (x : List ℕ) (xs : List (List ℕ)) → is_new x xs ≡ true → Each (λ y. bytes_eq x y ≡ false) xs
 new_of x xs h = each_of (λ y. not (bytes_eq x y)) (λ y. bytes_eq x y ≡ false) (λ y k. not_is (bytes_eq x y) k) xs h
 
 of_new : (x : List ℕ) (xs : List (List ℕ)) → Each (λ y. bytes_eq x y ≡ false) xs → is_new x xs ≡ true
 of_new x xs h = of_each (λ y. not (bytes_eq x y)) (λ y. bytes_eq x y ≡ false) (λ y k. is_not (bytes_eq x y) k) xs h
 
-apart_of : (xs : List (List ℕ)) → are_apart xs ≡ true → AreApart xs
+pub apart_of : (xs : List (List ℕ)) → are_apart xs ≡ true → AreApart xs
 apart_of [] h = tt
 apart_of (x ∷ xs) h = (new_of x xs (and_left (is_new x xs) (are_apart xs) h), apart_of xs (and_right (is_new x xs) (are_apart xs) h))
 
@@ -75,15 +75,15 @@ of_apart : (xs : List (List ℕ)) → AreApart xs → are_apart xs ≡ true
 of_apart [] h = refl
 of_apart (x ∷ xs) h = and_both (is_new x xs) (are_apart xs) (of_new x xs h.0) (of_apart xs h.1)
 
-each_join : {X : Type 0} (P : X → Type 0) (xs ys : List X) → Each P xs → Each P ys → Each P (xs ++ ys)
+pub each_join : {X : Type 0} (P : X → Type 0) (xs ys : List X) → Each P xs → Each P ys → Each P (xs ++ ys)
 each_join P [] ys h k = k
 each_join P (x ∷ xs) ys h k = (h.0, each_join P xs ys h.1 k)
 
-each_front : {X : Type 0} (P : X → Type 0) (xs ys : List X) → Each P (xs ++ ys) → Each P xs
+pub each_front : {X : Type 0} (P : X → Type 0) (xs ys : List X) → Each P (xs ++ ys) → Each P xs
 each_front P [] ys h = tt
 each_front P (x ∷ xs) ys h = (h.0, each_front P xs ys h.1)
 
-each_back : {X : Type 0} (P : X → Type 0) (xs ys : List X) → Each P (xs ++ ys) → Each P ys
+pub each_back : {X : Type 0} (P : X → Type 0) (xs ys : List X) → Each P (xs ++ ys) → Each P ys
 each_back P [] ys h = h
 each_back P (x ∷ xs) ys h = each_back P xs ys h.1
 
@@ -96,17 +96,17 @@ joined_apart (t ∷ ts) vs h k new =
       joined_apart ts vs (and_right (is_new t.name names) (are_apart names) h) k (and_right (is_new t.name vs) (list_all (λ (t : TableLayout). is_new t.name vs) ts) new),
     )
 
-apart_tables : (ts : List TableLayout) (vs : List (List ℕ)) → AreApart (map (λ (t : TableLayout). t.name) ts ++ vs) → are_apart (map (λ (t : TableLayout). t.name) ts) ≡ true
+pub apart_tables : (ts : List TableLayout) (vs : List (List ℕ)) → AreApart (map (λ (t : TableLayout). t.name) ts ++ vs) → are_apart (map (λ (t : TableLayout). t.name) ts) ≡ true
 apart_tables [] vs h = refl
 apart_tables (t ∷ ts) vs h =
     let names = map (λ (t : TableLayout). t.name) ts in
     and_both (is_new t.name names) (are_apart names) (of_new t.name names (each_front _ names vs h.0)) (apart_tables ts vs h.1)
 
-apart_views : (ts : List TableLayout) (vs : List (List ℕ)) → AreApart (map (λ (t : TableLayout). t.name) ts ++ vs) → are_apart vs ≡ true
+pub apart_views : (ts : List TableLayout) (vs : List (List ℕ)) → AreApart (map (λ (t : TableLayout). t.name) ts ++ vs) → are_apart vs ≡ true
 apart_views [] vs h = of_apart vs h
 apart_views (t ∷ ts) vs h = apart_views ts vs h.1
 
-apart_both : (ts : List TableLayout) (vs : List (List ℕ)) → AreApart (map (λ (t : TableLayout). t.name) ts ++ vs) → list_all (λ (t : TableLayout). is_new t.name vs) ts ≡ true
+pub apart_both : (ts : List TableLayout) (vs : List (List ℕ)) → AreApart (map (λ (t : TableLayout). t.name) ts ++ vs) → list_all (λ (t : TableLayout). is_new t.name vs) ts ≡ true
 apart_both [] vs h = refl
 apart_both (t ∷ ts) vs h =
     let names = map (λ (t : TableLayout). t.name) ts in

@@ -5,3 +5,4 @@ pub mod OutputLaws
 pub mod KeyOutputs
 pub mod Ranges
 pub mod Known
+pub mod OwnTexts

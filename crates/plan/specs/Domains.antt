@@ -75,13 +75,17 @@ shards_of_table p t = map (λ n. domain.Base t n) (range_with_len 0 (table_at p 
 abbrev pub base_shards : Layout → List DomainId
 base_shards p = flat_map (shards_of_table p) (range_with_len 0 (length p.tables))
 
+-- all domains: the shards of the tables, of the stage, and of the views
+abbrev pub domains : Layout → List DomainId
+domains p = base_shards p ++ stage_shards p ++ view_shards p
+
 -- the first of them that has the text
 abbrev pub named_among : Layout → List ℕ → List DomainId → Option DomainId
 named_among p text [] = None
 named_among p text (d ∷ ds) = cond (bytes_eq (domain_text p d) text) (Some d) (named_among p text ds)
 
 abbrev pub domain_named : Layout → List ℕ → Option DomainId
-domain_named p text = named_among p text (base_shards p ++ stage_shards p ++ view_shards p)
+domain_named p text = named_among p text (domains p)
 
 abbrev pub edge_among : Layout → List ℕ → List Edge → Option Edge
 edge_among p text [] = None

@@ -1,6 +1,6 @@
 //! Texts of domains and edges, and reading them back.
-ghost use Rattle.std.specs.Prelude.{◌≡◌, IfOk, string_bytes};
-ghost use Rattle.plan.specs.Domains.{domain_text, edge_text, numbered, base_shards, named_among, edge_among, domain_named, edge_named};
+ghost use Rattle.std.specs.Prelude.{◌≡◌, ◌↔◌, Contains, IfOk, Some, string_bytes};
+ghost use Rattle.plan.specs.Domains.{domain_text, edge_text, numbered, base_shards, domains, edges, named_among, edge_among, domain_named, edge_named};
 
 use crate::domain::{DomainId, Edge, push_bases};
 use crate::plan::Plan;
@@ -31,8 +31,11 @@ impl Plan {
     /// The domain of the plan that has this text. Refused only by memory. Cost: the text of each
     /// domain, of which there are at most 104.
     pub fn domain_named(&self, alloc: Global, text: &str) -> Result<Option<DomainId>, AllocError>
-        ensures { IfOk result (λ d. d ≡ domain_named self.now text.now) }
+        ensures domain { IfOk result (λ d. d ≡ domain_named self.now text.now) }
+        // It is one of the plan's domains with this text, and each of them is found by its text.
+        ensures exact { IfOk result (λ d. (x : DomainId) → (d ≡ Some x) ↔ (Contains (domains self.now) x × (domain_text self.now x ≡ text.now))) }
     {
+        self.keeps_profile();
         let mut domains = self.base_shards(alloc)?;
         domains.append(&mut self.stage_shards(alloc)?)?;
         domains.append(&mut self.view_shards(alloc)?)?;
@@ -42,8 +45,11 @@ impl Plan {
     /// The edge of the plan that has this text. Refused only by memory. Cost: the text of each edge,
     /// of which there are at most 768.
     pub fn edge_named(&self, alloc: Global, text: &str) -> Result<Option<Edge>, AllocError>
-        ensures { IfOk result (λ e. e ≡ edge_named self.now text.now) }
+        ensures edge { IfOk result (λ e. e ≡ edge_named self.now text.now) }
+        // It is one of the plan's edges with this text, and each of them is found by its text.
+        ensures exact { IfOk result (λ e. (x : Edge) → (e ≡ Some x) ↔ (Contains (edges self.now) x × (edge_text self.now x ≡ text.now))) }
     {
+        self.keeps_profile();
         let edges = self.edges(alloc)?;
         self.edge_among(alloc, text, &edges)
     }

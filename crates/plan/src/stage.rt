@@ -109,6 +109,13 @@ impl Side {
         self.key
     }
 
+    /// The conditions, which must all hold.
+    pub fn conditions(&self) -> &[Condition]
+        ensures { result.now ≡ self.now.conditions }
+    {
+        self.conditions.as_slice()
+    }
+
     /// Whether all conditions hold for the row.
     pub fn pass(&self, row: &Row) -> bool
         ensures { result ≡ pass self.now.conditions row.now }

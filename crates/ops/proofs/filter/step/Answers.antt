@@ -2,7 +2,7 @@ use Rattle.std.proofs.Common.{◌≡◌, ap, ◌∙◌}
 use Rattle.std.proofs.lemmas.List.{take_all}
 use Rattle.plan.specs.Outputs.{pass}
 use Rattle.ops.specs.Changes.{kept}
-use Rattle.ops.proofs.Counts.{Turns-filter}
+use Rattle.row.proofs.RecordLaws.{Turns-filter}
 use Rattle.ops.proofs.filter.step.Goals as goal
 
 pub returns-clause-difference : goal.returns-clause-difference
