@@ -1,3 +1,4 @@
 pub mod Members
 pub mod Each
 pub mod Samples
+pub mod Read

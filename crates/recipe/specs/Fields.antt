@@ -1,19 +1,16 @@
--- What a document says, field by field, or the number of the first fault in the order of the document.
--- Each line of a part is a field: whether it is needed, its kind, its name.
-use Rattle.std.specs.Prelude.{◌≡◌, ◌==◌, ℕ, nat_lt, ◌+◌, ℤ, pos, negsuc, Bool, true, false, ◌&&◌, ◌||◌, cond, List, [], ◌∷◌, length, codes, Option, Some, None, Result, Ok, Err, slice_index_or, position}
+-- A document read field by field, as the private functions of the crate read it: what it says, or the
+-- number of the first fault. The lemma `plan_is` shows that the checks in their order say the same.
+use Rattle.std.specs.Prelude.{ℕ, ℤ, Bool, true, false, List, [], ◌∷◌, codes, Option, Some, None, Result, Ok, Err}
 use Rattle.std.specs.List.{before_first, after_first}
-use Rattle.std.specs.Str.{bytes_eq}
 use Rattle.row.specs.Cells.{Datum, int, text}
-use Rattle.plan.specs.Layouts.{ColumnLayout, TableLayout, ConditionLayout, SideLayout, ViewLayout, Layout, no_table}
+use Rattle.plan.specs.Layouts.{ColumnLayout, TableLayout, ConditionLayout, SideLayout, ViewLayout, Layout}
 use Rattle.plan.specs.declared.kinds.Kind.{Kind}
-use Rattle.plan.specs.declared.kinds.Kind.TheVariants as kind
 use Rattle.plan.specs.declared.kinds.Op.{Op}
-use Rattle.plan.specs.declared.kinds.Op.TheVariants as op
 use Rattle.plan.specs.declared.kinds.Aggregate.{Aggregate}
 use Rattle.plan.specs.declared.kinds.Aggregate.TheVariants.{Count, Sum}
-use Rattle.toml.specs.Data.{Data, Items, no_items, item, Members, no_members, member, get, as_str, as_integer, as_array, as_table}
-use Rattle.recipe.specs.declared.error.PlanError.{PlanError}
-use Rattle.recipe.specs.declared.error.PlanError.TheVariants as error
+use Rattle.toml.specs.Data.{Data, Items, no_items, item, Members, get, as_str, as_integer, as_array, as_table}
+use Rattle.recipe.specs.Words.{natural, has_only, kind_of, op_of, word_of, is_space, column_place, table_place, columns_of, side_columns, right_side_columns, column_of_both}
+use Rattle.recipe.specs.Checks.{missing, mistyped}
 use Rattle.recipe.specs.declared.word.Word.{Word}
 use Rattle.recipe.specs.declared.word.Word.TheVariants as word
 
@@ -23,29 +20,6 @@ abbrev pub ◌>>=◌ : {A B : Type 0} → Result A ℕ → (A → Result B ℕ) 
 (Ok x) >>= f = f x
 (Err e) >>= f = Err e
 
--- what a call gives, seen by view, is what the definition gives, unless memory ran out
-abbrev pub Fails : {Y : Type 0} → PlanError → Result Y ℕ → Type 0
-Fails error.NoMemory read = Unit {0}
-Fails error.NotToml read = read ≡ Err 20
-Fails (error.MissingField s) read = read ≡ Err 21
-Fails (error.UnknownColumn s) read = read ≡ Err 22
-Fails (error.TypeMismatch s) read = read ≡ Err 23
-Fails (error.DoublePath s) read = read ≡ Err 24
-Fails (error.KeyNotLeft s) read = read ≡ Err 25
-Fails (error.LimitExceeded s) read = read ≡ Err 26
-Fails (error.DuplicateName s) read = read ≡ Err 27
-
-abbrev pub Gives : {X Y : Type 0} → (X → Y) → Result X PlanError → Result Y ℕ → Type 0
-Gives view (Ok x) read = read ≡ Ok (view x)
-Gives view (Err e) read = Fails e read
-
--- the numbers of both faults
-abbrev pub missing : ℕ
-missing = 21
-
-abbrev pub mistyped : ℕ
-mistyped = 23
-
 -- ---- kinds of fields
 abbrev pub kinded : {X : Type 0} → Option X → Result X ℕ
 kinded None = Err mistyped
@@ -53,11 +27,6 @@ kinded (Some x) = Ok x
 
 abbrev pub text_in : Data → Result (List ℕ) ℕ
 text_in d = kinded (as_str d)
-
--- a negative number counts as 0, which no limit allows
-abbrev pub natural : ℤ → ℕ
-natural (pos n) = n
-natural (negsuc n) = 0
 
 unfoldable pub whole_in : Data → Result ℕ ℕ
 whole_in d = do
@@ -95,41 +64,11 @@ paired (Some d) other = do
   t ← text_in d
   Ok (Some t)
 
--- no other names than these
-abbrev pub is_one_of : List (List ℕ) → List ℕ → Bool
-is_one_of [] name = false
-is_one_of (x ∷ xs) name = bytes_eq name x || is_one_of xs name
-
-abbrev pub has_only : List (List ℕ) → Members → Bool
-has_only names no_members = true
-has_only names (member k d ms) = is_one_of names k && has_only names ms
-
 abbrev pub finish : {X : Type 0} → Bool → X → Result X ℕ
 finish true x = Ok x
 finish false x = Err mistyped
 
--- ---- places: past the end where there is no such name
-abbrev pub at_or_end : Option ℕ → ℕ → ℕ
-at_or_end None n = n
-at_or_end (Some i) n = i
-
-abbrev pub column_place : List ColumnLayout → List ℕ → ℕ
-column_place columns name = at_or_end (position (λ (c : ColumnLayout). bytes_eq c.name name) columns) (length columns)
-
-abbrev pub table_place : List TableLayout → List ℕ → ℕ
-table_place tables name = at_or_end (position (λ (t : TableLayout). bytes_eq t.name name) tables) (length tables)
-
--- the columns of the table with the name, if there is one
-abbrev pub columns_of : List TableLayout → List ℕ → List ColumnLayout
-columns_of tables name = (slice_index_or tables (table_place tables name) no_table).columns
-
 -- ---- a table
-abbrev pub is_space : ℕ → Bool
-is_space b = b == 32
-
-abbrev pub kind_of : List ℕ → Option Kind
-kind_of name = cond (bytes_eq name (codes "int")) (Some kind.Int) (cond (bytes_eq name (codes "text")) (Some kind.Text) None)
-
 abbrev pub column_named : List ℕ → Option Kind → Result ColumnLayout ℕ
 column_named name None = Err mistyped
 column_named [] (Some k) = Err mistyped
@@ -162,11 +101,6 @@ table_at d = do
   finish (has_only table_fields ms) (record { name = name; shards = shards; key = column_place columns key; columns = columns })
 
 -- ---- a condition on a column of these
-abbrev pub op_of : List ℕ → Option Op
-op_of t =
-    cond (bytes_eq t (codes "=")) (Some op.Equal) (cond (bytes_eq t (codes "!=")) (Some op.NotEqual) (cond (bytes_eq t (codes "<")) (Some op.Less)
-    (cond (bytes_eq t (codes "<=")) (Some op.AtMost) (cond (bytes_eq t (codes ">")) (Some op.Greater) (cond (bytes_eq t (codes ">=")) (Some op.AtLeast) None)))))
-
 unfoldable pub op_at : Data → Result Op ℕ
 op_at d = do
   t ← text_in d
@@ -197,9 +131,6 @@ conditions_at columns d = do
   each (condition_at columns) ds
 
 -- ---- the stage
-abbrev pub word_of : List ℕ → Option Word
-word_of t = cond (bytes_eq t (codes "count")) (Some word.Count) (cond (bytes_eq t (codes "sum")) (Some word.Sum) None)
-
 unfoldable pub word_at : Data → Result (Option Word) ℕ
 word_at d = do
   t ← text_in d
@@ -273,9 +204,6 @@ stage_at tables d = do
   })
 
 -- ---- a view, keyed by one of the left columns or, behind them, of the right ones
-abbrev pub column_of_both : List ColumnLayout → List ColumnLayout → List ℕ → ℕ
-column_of_both lefts rights name = cond (nat_lt (column_place lefts name) (length lefts)) (column_place lefts name) (length lefts + column_place rights name)
-
 abbrev pub view_fields : List (List ℕ)
 view_fields = codes "name" ∷ codes "key" ∷ codes "shards" ∷ codes "cap" ∷ []
 
@@ -298,14 +226,6 @@ unfoldable pub views_at : List ColumnLayout → List ColumnLayout → Data → R
 views_at lefts rights d = do
   ds ← list_in d
   each (view_at lefts rights) ds
-
--- the columns of the table at the side's place
-abbrev pub side_columns : List TableLayout → SideLayout → List ColumnLayout
-side_columns tables s = (slice_index_or tables s.table no_table).columns
-
-abbrev pub right_side_columns : List TableLayout → Option SideLayout → List ColumnLayout
-right_side_columns tables None = []
-right_side_columns tables (Some s) = side_columns tables s
 
 abbrev pub top_fields : List (List ℕ)
 top_fields = codes "table" ∷ codes "stage" ∷ codes "view" ∷ []

@@ -3,7 +3,9 @@ ghost use Rattle.std.specs.Prelude.{◌≡◌};
 ghost use Rattle.std.specs.Option.{option_copied};
 ghost use Rattle.toml.specs.Data.{get};
 ghost use Rattle.toml.specs.View.{view, array_view, table_view};
-ghost use Rattle.recipe.specs.Fields.{Gives, natural, text_in, whole_in, list_in, table_in, needed, optional, paired};
+ghost use Rattle.recipe.specs.Errors.{Gives};
+ghost use Rattle.recipe.specs.Words.{natural};
+ghost use Rattle.recipe.specs.Fields.{text_in, whole_in, list_in, table_in, needed, optional, paired};
 
 use crate::error::{Part, PlanError, Spot};
 use toml::value::Array;

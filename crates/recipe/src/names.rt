@@ -6,7 +6,8 @@ ghost use Rattle.std.specs.Str.{bytes_eq};
 ghost use Rattle.std.specs.declared.alloc.Global.{Global};
 ghost use Rattle.plan.specs.Layouts.{ColumnLayout, TableLayout, no_table};
 ghost use Rattle.toml.specs.View.{table_view};
-ghost use Rattle.recipe.specs.Fields.{is_one_of, has_only, table_fields, condition_fields, stage_fields, view_fields, top_fields, column_place, table_place, column_of_both};
+ghost use Rattle.recipe.specs.Words.{is_one_of, has_only, column_place, table_place, column_of_both};
+ghost use Rattle.recipe.specs.Fields.{table_fields, condition_fields, stage_fields, view_fields, top_fields};
 
 use plan::table::{Column, Table};
 use toml::value::Table as Members;

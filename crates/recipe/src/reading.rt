@@ -2,7 +2,9 @@
 ghost use Rattle.std.specs.Prelude.{◌≡◌, codes};
 ghost use Rattle.toml.specs.View.{view, items_view, table_view};
 ghost use Rattle.toml.specs.Data.{get};
-ghost use Rattle.recipe.specs.Fields.{Gives, each, column_of, column_at, columns_at, table_at, tables_at, view_at, views_at, needed, side_columns, right_side_columns, draft_at};
+ghost use Rattle.recipe.specs.Errors.{Gives};
+ghost use Rattle.recipe.specs.Words.{side_columns, right_side_columns};
+ghost use Rattle.recipe.specs.Fields.{each, column_of, column_at, columns_at, table_at, tables_at, view_at, views_at, needed, draft_at};
 
 use crate::error::{Part, PlanError, Spot};
 use crate::fields::{list_in, table_in, text, text_in, whole};

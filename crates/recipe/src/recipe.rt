@@ -3,7 +3,7 @@ ghost use Rattle.std.specs.Prelude.{◌≡◌, IfOk, IsErrOf, Err, None};
 ghost use Rattle.std.specs.Str.{IsUtf8};
 ghost use Rattle.plan.specs.Profile.{IsPlan};
 ghost use Rattle.toml.specs.Parse.{parse_document};
-ghost use Rattle.recipe.specs.Fields.{Gives};
+ghost use Rattle.recipe.specs.Errors.{Gives};
 ghost use Rattle.toml.specs.View.{view};
 ghost use Rattle.recipe.specs.Plans.{judged, plan_at, plan_of};
 
