@@ -15,3 +15,5 @@ pub mod Sessions
 pub mod Zeros
 pub mod Advances
 pub mod Lines
+pub mod SameLines
+pub mod Printing

@@ -90,3 +90,11 @@ pub even_at : (p : Layout) (line : List ℕ) (v j : ℕ) → v < length p.views 
 even_at p line v j lv lj =
     let cut = replicate p.stages line in
     ap (λ (r : List Lengths). slice_index_or r j []) (row_at (λ (w : ViewLayout). replicate w.shards cut) p.views v no_view lv) ∙ same_in cut [] ((view_at p v).shards) j lj
+
+-- as many zeros as bases
+pub zero_lens : (fs : List FrontView) (bs : List ℕ) (i : ℕ) → map (λ (f : FrontView). f.base) fs ≡ take i bs → map (λ (f : FrontView). f.len) fs ≡ replicate i 0 → length bs ≤ i → map (λ (f : FrontView). f.len) fs ≡ replicate (length bs) 0
+zero_lens fs bs i are zeros done =
+    let all : map (λ (f : FrontView). f.base) fs ≡ bs = are ∙ take_all i bs done in
+    let n : length fs ≡ length bs = sym (length-map fs (λ (f : FrontView). f.base)) ∙ ap length all in
+    let m : length fs ≡ i = sym (length-map fs (λ (f : FrontView). f.len)) ∙ (ap length zeros ∙ length-replicate i 0) in
+    zeros ∙ ap (λ (x : ℕ). replicate x 0) (sym m ∙ n)

@@ -1,16 +1,19 @@
 //! Cuts: lengths of fronts, and one history for all of them.
-ghost use Rattle.std.specs.Prelude.{◌≡◌, ◌<◌, ◌≤◌, [], length, map, replicate, slice_index_or, slice_set, take, IfOk};
+ghost use Rattle.std.specs.Prelude.{◌≡◌, ◌≢◌, ◌<◌, ◌≤◌, [], IsTrue, IsFalse, length, map, replicate, slice_index_or, slice_set, take, IfOk};
 ghost use mathlib.Core.List.{IsPrefix};
 ghost use Rattle.row.specs.Bags.{Each};
+ghost use Rattle.book.specs.Histories.{len_at};
 ghost use Rattle.book.specs.Fronts.{FrontView, IsReached, entries};
 ghost use Rattle.book.specs.Pages.{IsLogOf, history_of};
-ghost use Rattle.book.specs.Places.{sources, source_at};
+ghost use Rattle.book.specs.Cuts.{IsWithin};
+ghost use Rattle.book.specs.Places.{base_count, sources as sources_of, source_at};
 ghost use Rattle.book.specs.Sessions.{fronts, with_length, with_front, even_floors};
 
 use crate::floors::Floors;
 use crate::front::Front;
 use crate::law::{Law, LogPage, Naming};
 use crate::part::Part;
+use crate::places::sources;
 use crate::step::learn;
 use logbook::Seen;
 use plan::plan::Plan;
@@ -20,7 +23,7 @@ use std::marker::{Model, PhantomData};
 /// A length for each stage shard and each source.
 #[derive(Drop)]
 pub struct Lengths {
-    lines: Vec<Vec<u64>>,
+    pub(crate) lines: Vec<Vec<u64>>,
 }
 
 impl Model for Lengths {
@@ -102,6 +105,38 @@ impl Lengths {
         Ok(Lengths { lines })
     }
 
+    /// The same lengths in memory of their own. Refused for want of memory alone.
+    pub fn again(&self, alloc: Global) -> Result<Lengths, AllocError>
+        ensures { IfOk result (λ c. c ≡ self.now) }
+    {
+        let mut lines = Vec::new(alloc);
+        for line in &self.lines {
+            lines.push(Vec::from_slice(alloc, line.as_slice())?)?;
+        }
+        Ok(Lengths { lines })
+    }
+
+    /// The length of a source at a stage shard, 0 where there is none.
+    pub fn len(&self, stage: usize, source: usize) -> u64
+        ensures { result ≡ len_at self.now stage source }
+    {
+        let Some(line) = self.lines.get(stage) else {
+            return 0;
+        };
+        match line.get(source) {
+            Some(len) => *len,
+            None => 0,
+        }
+    }
+
+    /// Whether the two cuts have the same lengths.
+    pub fn is_same(&self, other: &Lengths) -> bool
+        ensures same { IsTrue result → self.now ≡ other.now }
+        ensures other { IsFalse result → self.now ≢ other.now }
+    {
+        self.lines == other.lines
+    }
+
     /// Sets one length.
     pub fn set(&mut self, stage: usize, source: usize, len: u64)
         requires stage { stage < length self.old }
@@ -123,7 +158,7 @@ impl<J: Naming> Cuts<J> {
         fronts: &[Front<J>],
     ) -> Result<Cuts<J>, AllocError>
         requires plan { plan.now ≡ J.plan }
-        requires sources { map (λ (f : FrontView). f.base) fronts.now ≡ sources J.plan }
+        requires sources { map (λ (f : FrontView). f.base) fronts.now ≡ sources_of J.plan }
         ensures floors { IfOk result (λ c. c.floors ≡ even_floors J.plan (map (λ (f : FrontView). f.len) fronts.now)) }
         ensures seen { IfOk result (λ c. IsPrefix part.now c.seen) }
         ensures fronts { IfOk result (λ c. Each (IsReached c.seen) fronts.now) }
@@ -169,7 +204,7 @@ impl<J: Naming> Cut<J> {
         fronts: &[Front<J>],
     ) -> Result<Cut<J>, AllocError>
         requires plan { plan.now ≡ J.plan }
-        requires sources { map (λ (f : FrontView). f.base) fronts.now ≡ sources J.plan }
+        requires sources { map (λ (f : FrontView). f.base) fronts.now ≡ sources_of J.plan }
         ensures lengths { IfOk result (λ c. c.lengths ≡ replicate J.plan.stages (map (λ (f : FrontView). f.len) fronts.now)) }
         ensures seen { IfOk result (λ c. IsPrefix part.now c.seen) }
         ensures fronts { IfOk result (λ c. Each (IsReached c.seen) fronts.now) }
@@ -183,14 +218,89 @@ impl<J: Naming> Cut<J> {
         })
     }
 
+    /// Its lengths.
+    pub fn lengths(&self) -> &Lengths
+        ensures lengths { result.now ≡ self.now.lengths }
+    {
+        &self.lengths
+    }
+
+    /// Its lengths, without the history.
+    pub fn into_lengths(self) -> Lengths
+        ensures lengths { result ≡ self.lengths }
+    {
+        self.lengths
+    }
+
+    /// A copy. Refused for want of memory alone.
+    pub fn again(&self, alloc: Global) -> Result<Cut<J>, AllocError>
+        ensures { IfOk result (λ c. c ≡ self.now) }
+    {
+        Ok(Cut {
+            lengths: self.lengths.again(alloc)?,
+            seen: self.seen.again(),
+            of: PhantomData,
+        })
+    }
+
+    /// Whether the two name the same fronts: they do where their lengths are the same.
+    pub fn agrees(&self, other: &Cut<J>) -> bool
+        ensures lengths { IsTrue result → self.now.lengths ≡ other.now.lengths }
+        ensures fronts { IsTrue result → fronts J.plan self.now ≡ fronts J.plan other.now }
+        ensures other { IsFalse result → self.now.lengths ≢ other.now.lengths }
+    {
+        let mut seen = self.seen.again();
+        learn::<J>(&mut seen, &other.seen);
+        self.lengths.is_same(&other.lengths)
+    }
+
+    /// The cut at which each stage shard has the empty front of each source. Refused for want of
+    /// memory alone.
+    pub fn zeros(alloc: Global, plan: &Plan, part: &Part<J>) -> Result<Cut<J>, AllocError>
+        requires plan { plan.now ≡ J.plan }
+        ensures lengths { IfOk result (λ c. c.lengths ≡ replicate J.plan.stages (replicate (length (sources_of J.plan)) 0)) }
+        ensures seen { IfOk result (λ c. IsPrefix part.now c.seen) }
+    {
+        let mut fronts = Vec::new(alloc);
+        for base in &sources(alloc, plan)? {
+            fronts.push(part.front(*base))?;
+        }
+        Cut::even(alloc, plan, part, fronts.as_slice())
+    }
+
+    /// Its lengths were reached in what was seen, and it has one for each stage shard and source.
+    /// This is no step of the run.
+    pub fn is_within(&self)
+        ensures { IsWithin J.plan self.now.seen self.now.lengths }
+    {
+        let _lengths = &self.lengths;
+    }
+
+    /// The front of a source at a stage shard.
+    pub fn front(&self, stage: usize, source: usize, base: usize) -> Front<J>
+        requires base { base < base_count J.plan }
+        requires source { source_at J.plan source ≡ base }
+        ensures base { result.base ≡ base }
+        ensures len { result.len ≡ len_at self.now.lengths stage source }
+        ensures seen { result.seen ≡ self.now.seen }
+    {
+        Front {
+            base,
+            len: self.lengths.len(stage, source),
+            seen: self.seen.again(),
+            of: PhantomData,
+        }
+    }
+
     /// Takes the front's length for its source at a stage shard. The other fronts stay.
     pub fn advance(&mut self, stage: usize, source: usize, front: &Front<J>)
         requires stage { stage < J.plan.stages }
-        requires source { source < length (sources J.plan) }
+        requires source { source < length (sources_of J.plan) }
         requires base { source_at J.plan source ≡ front.now.base }
         ensures lengths { self.new.lengths ≡ with_length self.old.lengths stage source front.now.len }
         ensures fronts { fronts J.plan self.new ≡ with_front (fronts J.plan self.old) stage source (entries front.now) }
         ensures seen { IsPrefix self.old.seen self.new.seen }
+        ensures others { IsPrefix front.now.seen self.new.seen }
     {
         learn::<J>(&mut self.seen, &front.seen);
         self.lengths.set(stage, source, front.len);

@@ -66,7 +66,7 @@ impl Play<LogPage, u64> for Add {
 }
 
 /// Which book it is, of which plan and how many sessions.
-pub trait Naming: Send + Sync {
+pub trait Naming {
     ghost use Rattle.std.specs.Prelude.{ℕ};
     ghost use Rattle.logbook.specs.Pages.{Book};
     ghost use Rattle.plan.specs.Layouts.{Layout};

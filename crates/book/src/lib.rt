@@ -3,6 +3,7 @@
 
 pub mod book;
 pub mod cut;
+mod display;
 pub mod entry;
 pub mod floors;
 pub mod front;

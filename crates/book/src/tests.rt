@@ -5,7 +5,7 @@ ghost use Rattle.plan.specs.Recipes.{notes_plan};
 ghost use Rattle.book.specs.Histories.{floor_at};
 
 use crate::book::{Book, Opened};
-use crate::cut::Cut;
+use crate::cut::{Cut, Lengths};
 use crate::entry::Entry;
 use crate::front::Front;
 use crate::law::Naming;
@@ -132,4 +132,23 @@ fn answer_nothing<J: Naming>(
     let cut = Cut::even(alloc, plan, &front.part(), fronts.as_slice())?;
     let rows = Vec::new(alloc);
     Ok(word.answer(book, 0, 0, &Value::Int(7), &rows, cut))
+}
+
+#[test]
+fn printed_cuts(rt: HostRuntime) -> Result<(), Fail> {
+    let alloc = rt.alloc();
+    let mut cut = Lengths::even(alloc, 2, &[0, 1, 4294967295])?;
+    assert_eq!(rt;
+        cut.to_string(alloc)?.as_str(),
+        "0,1,4294967295/0,1,4294967295"
+    );
+    cut.set(1, 0, 20);
+    assert_eq!(rt;
+        cut.to_string(alloc)?.as_str(),
+        "0,1,4294967295/20,1,4294967295"
+    );
+    let one = Lengths::even(alloc, 1, &[3])?;
+    assert_eq!(rt; one.to_string(alloc)?.as_str(), "3");
+    assert_eq!(rt; Lengths::empty(alloc).to_string(alloc)?.as_str(), "");
+    Ok(())
 }

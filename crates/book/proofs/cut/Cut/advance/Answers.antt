@@ -14,3 +14,6 @@ returns-clause-fronts g c =
 
 pub returns-clause-seen : goal.returns-clause-seen
 returns-clause-seen g c = rw (← c.self.view_is) (seen_more c.self.inside.seen.log c.learn.new.seen.log c.learn.ensures.grown)
+
+pub returns-clause-others : goal.returns-clause-others
+returns-clause-others g c = rw (← c.front.view_is) (seen_more c.front.inside.seen.log c.learn.new.seen.log c.learn.ensures.others)

@@ -1,4 +1,4 @@
-use Rattle.std.proofs.Common.{◌≡◌, ℕ, List, map, replicate, ap, sym, ◌∙◌, subst}
+use Rattle.std.proofs.Common.{◌≡◌, ℕ, map, replicate, ap, sym, ◌∙◌, subst}
 use Rattle.plan.specs.Layouts.{Layout}
 use Rattle.book.specs.Cuts.{IsWithin}
 use Rattle.book.specs.Fronts.{FrontView}

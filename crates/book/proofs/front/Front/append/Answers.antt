@@ -10,7 +10,7 @@ try_add-found-requires-clause-ask g c =
     let f = c.self.invariant.2 in
     let q = c.requires in
     let is = sym c.self.view_is in
-    λ κs le. record {
+    record {
       item = write c.args.session c.args.number c.self.inside.base (change_of c.args.entry.now);
       asks = refl;
       word = refl;

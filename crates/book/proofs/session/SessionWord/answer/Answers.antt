@@ -10,7 +10,7 @@ try_add-found-requires-clause-ask g c =
     let q = c.requires in
     let at = sym c.self.view_is in
     let is = sym c.cut.view_is in
-    λ κs le. read_asked g.J.Naming.plan g.J.Naming.sessions c.learn.new.seen.log c.cut.inside.seen.log _ _ _ c.args.view c.args.shard _ _ _ _ (ap (λ b. b + c.self.inside.number) c.bases.ensures.bases) q.shard x c.learn.ensures.others q.view q.within c.cut.invariant.2 (rw (at, is) at q.floor) (rw is at q.rows)
+    read_asked g.J.Naming.plan g.J.Naming.sessions c.learn.new.seen.log c.cut.inside.seen.log _ _ _ c.args.view c.args.shard _ _ _ _ (ap (λ b. b + c.self.inside.number) c.bases.ensures.bases) q.shard x c.learn.ensures.others q.view q.within c.cut.invariant.2 (rw (at, is) at q.floor) (rw is at q.rows)
 
 pub invariant_of-self : goal.invariant_of-self
 invariant_of-self g c =

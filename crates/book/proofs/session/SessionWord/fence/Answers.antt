@@ -10,7 +10,7 @@ try_add-found-requires-clause-ask g c =
     let q = c.requires in
     let at = sym c.self.view_is in
     let is = sym c.cuts.view_is in
-    λ κs le. fence_asked g.J.Naming.plan g.J.Naming.sessions c.self.inside.seen.log c.learn.new.seen.log c.cuts.inside.seen.log _ _ _ _ _ _ (ap (λ b. b + c.self.inside.number) c.bases.ensures.bases) x c.learn.ensures.grown c.learn.ensures.others c.cuts.invariant.2 (rw (at, is) at q.floors) (rw is at q.past) (rw at at q.own)
+    fence_asked g.J.Naming.plan g.J.Naming.sessions c.self.inside.seen.log c.learn.new.seen.log c.cuts.inside.seen.log _ _ _ _ _ _ (ap (λ b. b + c.self.inside.number) c.bases.ensures.bases) x c.learn.ensures.grown c.learn.ensures.others c.cuts.invariant.2 (rw (at, is) at q.floors) (rw is at q.past) (rw at at q.own)
 
 pub invariant_of-self : goal.invariant_of-self
 invariant_of-self g c =
