@@ -4,3 +4,4 @@ pub mod Lookups
 pub mod Stores
 pub mod Checks
 pub mod Fitting
+pub mod Records

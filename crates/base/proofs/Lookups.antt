@@ -30,7 +30,7 @@ same_flip a b = ap is_eq (datum_total.antisymm a b) ∙ step (datum_cmp b a)
 pub equal_is : (v w : Value) → eq-value.it v w ≡ true → datum_of v ≡ datum_of w
 equal_is v w h = same_is (datum_of v) (datum_of w) (sym (eq-value_is v w) ∙ h)
 
-value_equivalence : IsEquivalence eq-value.it
+pub value_equivalence : IsEquivalence eq-value.it
 value_equivalence = record {
   refl = λ x. eq-value_is x x ∙ same_self (datum_of x);
   symm = λ x y. eq-value_is x y ∙ (same_flip (datum_of x) (datum_of y) ∙ sym (eq-value_is y x));

@@ -1,5 +1,5 @@
 -- The entries after an insertion, a removal or a write in place: how they are stored, and their rows in order.
-use Rattle.std.proofs.Common.{◌≡◌, ℕ, ◌<◌, ◌≤◌, true, false, cond, List, [], ◌∷◌, map, Option, Some, None, is_some, IsSome, IfSome, slice_get, length, IsPermutation, MutBor, refl, ap, sym, ◌∙◌, arith}
+use Rattle.std.proofs.Common.{◌≡◌, ℕ, ◌<◌, ◌≤◌, true, false, cond, List, [], ◌∷◌, map, Option, Some, None, is_some, IsSome, IfSome, slice_get, length, IsPermutation, Bor, MutBor, refl, ap, sym, ◌∙◌, arith}
 use Rattle.std.specs.List.{IsDistinct}
 use Rattle.std.specs.Map.{keys_of, values_of, lookup, remove_entry, set_value}
 use Rattle.std.specs.HashMap.{HashMap, IsUnique, IsReordered, WritesThrough, values, spare}
@@ -16,7 +16,7 @@ use Rattle.row.specs.contracts.value.ValuePartialEq.TheImpl.{eq-value}
 use Rattle.book.specs.Logs.{inserts, deletes, updates, changed, is_held}
 use Rattle.base.specs.Stored.{equal, IsKeyed, AreKeyed, IsStored}
 use Rattle.base.specs.Shards.{Shard}
-use Rattle.std.specs.Option.{option_map, option_copied_mut}
+use Rattle.std.specs.Option.{option_map, option_copied, option_copied_mut}
 use Rattle.base.proofs.Orders.{any_sorted, permuted_alike}
 use Rattle.base.proofs.Fronts.{changed_sorted}
 use Rattle.base.proofs.Lookups.{held_is, removed_is, updated_is, keyed_removed, keyed_updated}
@@ -84,6 +84,13 @@ place_there key v d es keyed own h found is =
     step found (ap is_some is ∙ (sym (held_sorted key v es keyed) ∙ (ap (is_held key (sorted row_cmp (values_of es))) own ∙ h)))
   where
     step : (o : Option (MutBor Cells)) → is_some (option_copied_mut o) ≡ true → IsSome o
+    step None h = cc
+    step (Some x) h = refl
+
+pub row_there : (key : ℕ) (v : Value) (es : List (Value × Cells)) → AreKeyed key es → is_held key (sorted row_cmp (values_of es)) (datum_of v) ≡ true → (found : Option (Bor Cells)) → option_copied found ≡ lookup (equal v) es → IsSome found
+row_there key v es keyed h found is = step found (ap is_some is ∙ (sym (held_sorted key v es keyed) ∙ h))
+  where
+    step : (o : Option (Bor Cells)) → is_some (option_copied o) ≡ true → IsSome o
     step None h = cc
     step (Some x) h = refl
 

@@ -1,2 +1,3 @@
 pub mod Shards
 pub mod Stored
+pub mod Records

@@ -1,20 +1,23 @@
 //! The rows of one shard of one table, by their keys.
-ghost use Rattle.std.specs.Prelude.{◌≡◌, ◌+◌, ◌++◌, ◌∷◌, [], List, ◌<◌, ◌↔◌, true, false, if◌then◌else◌, IsTrue, IsOk, OnOk, OnErr, IsOkUnless, Some, None, length};
+ghost use Rattle.std.specs.Prelude.{◌≡◌, ◌+◌, ◌++◌, ◌∷◌, [], List, filter, ◌<◌, ◌↔◌, true, false, if◌then◌else◌, IsTrue, IsOk, OnOk, IfOk, OnErr, IsOkUnless, Some, None, length};
 ghost use Rattle.std.specs.List.Sorted.{IsPermutation};
 ghost use Rattle.std.specs.HashMap.{get, spare, IsUnique};
-ghost use Rattle.row.specs.Cells.{datum_of, cell_at, row_cmp};
+ghost use Rattle.row.specs.Cells.{datum_of, cell_at, has, row_cmp};
 ghost use Rattle.row.specs.Bags.{sorted};
-ghost use Rattle.book.specs.Logs.{Change, inserts, deletes, updates, changed, is_held, key_of};
+ghost use Rattle.row.specs.Changes.{Turns};
+ghost use Rattle.book.specs.Logs.{Change, inserts, deletes, updates, changed, is_held, key_of, rows_of};
 ghost use Rattle.book.specs.Refusals.{full, refusal, refusal_over};
 ghost use Rattle.book.specs.Entries.{change_of};
 ghost use Rattle.base.specs.Shards.{Shard, IsAt, HasKey, HasRoom, adds_row, room_after, verdict};
+ghost use Rattle.base.specs.Records.{plus_of, minus_of, records_of, record_count};
 ghost use Rattle.base.specs.Stored.{equal};
 
 use book::entry::Entry;
+use row::record::{Record, Sign};
 use row::refused::Refused;
 use row::row::Row;
 use row::value::Value;
-use std::alloc::Global;
+use std::alloc::{AllocError, Global};
 use std::collections::HashMap;
 use std::marker::Model;
 
@@ -124,6 +127,54 @@ impl BaseShard {
         self.rows.contains_key(key)
     }
 
+    /// What an entry that `check` allows changes in the rows: plus the row of an Insert, minus the
+    /// row of a Delete's key, and for an Update minus the old row of its key, then plus the new one.
+    /// Refused for want of memory alone. One look-up of a key, but none for an Insert, and a copy
+    /// of each of these rows, at most two.
+    pub fn changes(&self, alloc: Global, entry: &Entry) -> Result<Vec<Record>, AllocError>
+        requires key { HasKey self.now.key (change_of entry.now) }
+        requires lawful { refusal_over self.now.key self.now.limit self.now.rows self.now.length (change_of entry.now) ≡ None }
+        ensures records { IfOk result (λ v. v.items ≡ records_of self.now.key self.now.rows (change_of entry.now)) }
+        ensures count { IfOk result (λ v. length v.items ≡ record_count (change_of entry.now)) }
+        ensures turns { IfOk result (λ v. Turns self.now.rows v.items (changed self.now.key self.now.rows (change_of entry.now))) }
+        ensures records_at { IfOk result (λ v. (front : List Change) → IsAt self.now front → v.items ≡ records_of self.now.key (rows_of self.now.key front) (change_of entry.now)) }
+        ensures turns_at { IfOk result (λ v. (front : List Change) → IsAt self.now front → Turns (rows_of self.now.key front) v.items (rows_of self.now.key (front ++ change_of entry.now ∷ []))) }
+    {
+        self.records(alloc, entry)
+    }
+
+    /// The records of a lawful entry.
+    fn records(&self, alloc: Global, entry: &Entry) -> Result<Vec<Record>, AllocError>
+        requires key { HasKey self.now.key (change_of entry.now) }
+        requires lawful { refusal_over self.now.key self.now.limit self.now.rows self.now.length (change_of entry.now) ≡ None }
+        ensures records { IfOk result (λ v. v.items ≡ records_of self.now.key self.now.rows (change_of entry.now)) }
+        ensures count { IfOk result (λ v. length v.items ≡ record_count (change_of entry.now)) }
+    {
+        let mut records = Vec::new(alloc);
+        match entry {
+            Entry::Insert(row) => records.push(plus(alloc, row)?)?,
+            Entry::Delete(key) => records.push(self.minus(alloc, key)?)?,
+            Entry::Update(row) => {
+                records.push(self.minus(alloc, row.cell(self.key_column))?)?;
+                records.push(plus(alloc, row)?)?;
+            }
+        }
+        Ok(records)
+    }
+
+    /// One less of the row of the key, which is held.
+    fn minus(&self, alloc: Global, key: &Value) -> Result<Record, AllocError>
+        requires held { is_held self.now.key self.now.rows (datum_of key.now) ≡ true }
+        ensures record { IfOk result (λ r. r ≡ minus_of r.row) }
+        ensures only { IfOk result (λ r. filter (has self.now.key (datum_of key.now)) self.now.rows ≡ r.row ∷ []) }
+    {
+        let row = self.rows.get(key).unwrap();
+        Ok(Record {
+            row: row.copied(alloc)?,
+            sign: Sign::Minus,
+        })
+    }
+
     /// Room for the entry, so that `commit` takes no memory. Only an Insert needs any: one more
     /// place for a row, and a copy of its key. `NoMemory` leaves the shard as it was. Mostly one
     /// copy of the key; at times the rows' places are moved to a larger table.
@@ -227,6 +278,16 @@ impl BaseShard {
         let place = self.rows.get_mut(row.cell(self.key_column)).unwrap();
         *place = row;
     }
+}
+
+/// One more of the row.
+fn plus(alloc: Global, row: &Row) -> Result<Record, AllocError>
+    ensures { IfOk result (λ r. r ≡ plus_of row.now) }
+{
+    Ok(Record {
+        row: row.copied(alloc)?,
+        sign: Sign::Plus,
+    })
 }
 
 /// Puts the row under a key that none has yet, in room that is there.

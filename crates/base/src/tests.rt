@@ -5,6 +5,7 @@ ghost use Rattle.base.specs.Shards.{HasKey};
 
 use crate::shard::BaseShard;
 use book::entry::Entry;
+use row::record::{Record, Sign};
 use row::refused::Refused;
 use row::row::Row;
 use row::value::Value;
@@ -28,6 +29,22 @@ fn write(shard: &mut BaseShard, alloc: Global, entry: Entry) -> Result<(), Refus
     shard.reserve(alloc, &entry)?;
     shard.commit(entry);
     Ok(())
+}
+
+/// What an entry that the shard allows changes in its rows.
+fn changes_of(shard: &BaseShard, alloc: Global, entry: &Entry) -> Result<Vec<Record>, Refused>
+    requires { HasKey shard.now.key (change_of entry.now) }
+{
+    shard.check(entry)?;
+    Ok(shard.changes(alloc, entry)?)
+}
+
+/// Whether the record at the place has the sign and the row.
+fn has_at(records: &[Record], place: usize, sign: Sign, row: &Row) -> bool {
+    match records.get(place) {
+        Some(record) => record.sign == sign && &record.row == row,
+        None => false,
+    }
 }
 
 #[test]
@@ -106,5 +123,57 @@ fn finds_a_text_in_the_second_column(rt: HostRuntime) -> Result<(), Fail> {
     assert_eq!(rt; shard.len(), 3);
     write(&mut shard, alloc, again)?;
     assert_eq!(rt; shard.len(), 4);
+    Ok(())
+}
+
+#[test]
+fn tells_what_entries_change(rt: HostRuntime) -> Result<(), Fail> {
+    let alloc = rt.alloc();
+    let mut shard = BaseShard::new(alloc, 0, 10);
+    write(
+        &mut shard,
+        alloc,
+        Entry::Insert(row_of(alloc, Value::Int(6), "six")?),
+    )?;
+    let first = row_of(alloc, Value::Int(7), "new")?;
+    let insert = Entry::Insert(row_of(alloc, Value::Int(7), "new")?);
+    let records = changes_of(&shard, alloc, &insert)?;
+    assert_eq!(rt; records.len(), 1);
+    assert!(rt; has_at(&records, 0, Sign::Plus, &first));
+    assert_eq!(rt; shard.len(), 1);
+    write(&mut shard, alloc, insert)?;
+
+    let second = row_of(alloc, Value::Int(7), "changed")?;
+    let update = Entry::Update(row_of(alloc, Value::Int(7), "changed")?);
+    let records = changes_of(&shard, alloc, &update)?;
+    assert_eq!(rt; records.len(), 2);
+    assert!(rt; has_at(&records, 0, Sign::Minus, &first));
+    assert!(rt; has_at(&records, 1, Sign::Plus, &second));
+    write(&mut shard, alloc, update)?;
+
+    let delete = Entry::Delete(Value::Int(7));
+    let records = changes_of(&shard, alloc, &delete)?;
+    assert_eq!(rt; records.len(), 1);
+    assert!(rt; has_at(&records, 0, Sign::Minus, &second));
+    write(&mut shard, alloc, delete)?;
+    assert_eq!(rt; shard.len(), 4);
+    Ok(())
+}
+
+#[test]
+fn an_update_to_an_equal_row_changes_twice(rt: HostRuntime) -> Result<(), Fail> {
+    let alloc = rt.alloc();
+    let mut shard = BaseShard::new(alloc, 1, 10);
+    let row = row_of(alloc, Value::Int(1), "ada")?;
+    write(
+        &mut shard,
+        alloc,
+        Entry::Insert(row_of(alloc, Value::Int(1), "ada")?),
+    )?;
+    let update = Entry::Update(row_of(alloc, Value::Int(1), "ada")?);
+    let records = changes_of(&shard, alloc, &update)?;
+    assert_eq!(rt; records.len(), 2);
+    assert!(rt; has_at(&records, 0, Sign::Minus, &row));
+    assert!(rt; has_at(&records, 1, Sign::Plus, &row));
     Ok(())
 }

@@ -1,10 +1,11 @@
 -- A base domain: one base shard, the front of its log, and the calls that it has seen.
 use Rattle.std.specs.Prelude.{◌≡◌, ◌⊎◌, ℕ, ◌+◌, ◌<◌, Bool, true, false, List, length, slice_index_or, slice_set, Option, Some, None}
 use Rattle.row.specs.Bags.{Each}
+use Rattle.row.specs.Changes.{Turns}
 use Rattle.row.specs.declared.refused.Refused.{Refused}
 use Rattle.row.specs.declared.refused.Refused.TheVariants.{NoMemory, Stopped}
 use Rattle.plan.specs.Layouts.{Layout}
-use Rattle.book.specs.Logs.{Change}
+use Rattle.book.specs.Logs.{Change, rows_of}
 use Rattle.book.specs.Places.{layout_of}
 use Rattle.book.specs.Histories.{Author}
 use Rattle.book.specs.Legal.{limit}
@@ -12,7 +13,9 @@ use Rattle.book.specs.Fronts.{FrontView, entries, authors, IsAppended, IsMoved}
 use Rattle.book.specs.Refusals.{refusal}
 use Rattle.book.specs.Replies.{WrittenView}
 use Rattle.base.specs.Shards.{Shard, IsAt}
+use Rattle.base.specs.Records.{records_of}
 use Rattle.domain.specs.Messages.{WriteView, DeclinedView}
+use Rattle.domain.specs.Packets.{PacketView}
 
 -- its front, for each session the least number that its next write may have, and whether it has stopped
 pub record Domain : Type 0 where
@@ -43,6 +46,13 @@ pub record Takes (p : Layout) (old : Domain) (w : WriteView) (r : WrittenView) (
   pub reply : r ≡ record { session = w.session; number = w.number; base = old.front.base; index = old.front.len; entry = w.entry; seen = new.front.seen }
   pub next : new.next ≡ slice_set old.next w.session (w.number + 1)
   pub running : new.stopped ≡ false
+
+-- the packet tells of the entry, from the front f to the front g
+pub record Sends (p : Layout) (f : FrontView) (e : Change) (k : PacketView) (g : FrontView) : Type 0 where
+  pub from : k.from ≡ f.len
+  pub to : k.to ≡ g
+  pub changes : k.changes ≡ records_of (layout_of p f.base).key (rows_of (layout_of p f.base).key (entries f)) e
+  pub turns : Turns (rows_of (layout_of p f.base).key (entries f)) k.changes (rows_of (layout_of p f.base).key (entries g))
 
 -- it is the answer to the write
 pub record IsAnswer (w : WriteView) (d : DeclinedView) : Type 0 where

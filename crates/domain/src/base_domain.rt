@@ -1,13 +1,17 @@
 //! The domain of one base shard.
-ghost use Rattle.std.specs.Prelude.{◌≡◌, ◌⊎◌, ℕ, ◌<◌, ◌≤◌, List, true, false, length, replicate, slice_index_or, IfOk, OnOk, IfErr, IsErr, IfSome, IsSome, IfNone, IsTrue, IsFalse, None, Some};
+ghost use Rattle.std.specs.Prelude.{◌≡◌, ◌⊎◌, ℕ, ◌<◌, ◌≤◌, ◌++◌, ◌∷◌, [], List, true, false, length, replicate, slice_index_or, IfOk, OnOk, IfErr, Err, IsErr, IfSome, IsSome, IsSomeAnd, IfNone, IsTrue, IsFalse, None, Some};
+ghost use Rattle.row.specs.Changes.{Turns};
 ghost use Rattle.plan.specs.Layouts.{table_at};
 ghost use Rattle.book.specs.Entries.{change_of};
-ghost use Rattle.book.specs.Logs.{Change};
+ghost use Rattle.book.specs.Logs.{Change, rows_of};
 ghost use Rattle.book.specs.Places.{base_at};
+ghost use Rattle.book.specs.Refusals.{refusal_over};
+ghost use Rattle.base.specs.Records.{records_of};
 ghost use Rattle.base.specs.Shards.{IsAt, HasKey, HasRoom};
-ghost use Rattle.domain.specs.Bases.{Declines, Domain, IsAnswer, Stops, Takes, refusal_at};
+ghost use Rattle.domain.specs.Bases.{Declines, Domain, IsAnswer, Sends, Stops, Takes, refusal_at};
 
 use crate::message::{Declined, Reply, Write};
+use crate::packet::BasePacket;
 use base::shard::BaseShard;
 use book::book::Book;
 use book::entry::Entry;
@@ -16,6 +20,7 @@ use book::law::Naming;
 use book::part::Part;
 use book::places::base_at;
 use plan::plan::Plan;
+use row::record::Record;
 use row::refused::Refused;
 use std::alloc::{AllocError, Global};
 use std::marker::Model;
@@ -41,6 +46,36 @@ impl<J: Naming> Model for BaseDomain<J> {
     ghost view = { λ d. record { front = d.front; next = d.next.items; stopped = d.stopped } };
 
     ghost invariant = { λ d. IsDomain J.plan d.shard d.front d.next.items };
+}
+
+/// What a base shard does with a write: it replies, and where it accepted the entry it also tells
+/// what that changes in its rows.
+#[derive(Drop)]
+pub struct Outcome<J: Naming> {
+    /// The reply to the write's session.
+    pub reply: Reply<J>,
+    /// The changes, for those that follow the shard. None where the write was not accepted.
+    pub packet: Option<BasePacket<J>>,
+}
+
+impl<J: Naming> Outcome<J> {
+    // A write that was not accepted.
+    fn of_declined(declined: Declined<J>) -> Outcome<J>
+        ensures reply { result.reply ≡ Err declined }
+        ensures packet { result.packet ≡ None }
+    {
+        Outcome {
+            reply: Err(declined),
+            packet: None,
+        }
+    }
+}
+
+// What the step of a write needs, made before it.
+#[derive(Drop)]
+struct Ready {
+    kept: Entry,
+    changes: Vec<Record>,
 }
 
 impl<J: Naming> BaseDomain<J> {
@@ -104,29 +139,33 @@ impl<J: Naming> BaseDomain<J> {
     /// Takes a write, and gives the reply; none where the write's number is not above all of its
     /// session in the log, and then nothing changes.
     ///
-    /// Accepted, the entry was appended by one step, after all that was seen. Else the reply is
-    /// `Duplicate`, `Absent` or `LogFull` exactly where the log refuses the entry, `NoMemory`, or
-    /// `Stopped` where the domain had stopped or the log has moved; where it has moved the domain
-    /// stops. What is not accepted leaves the rest as it was. Cost: one look-up by the key, one
-    /// copy of the entry.
-    pub fn receive(&mut self, alloc: Global, book: &Book<J>, write: Write<J>) -> Option<Reply<J>>
+    /// Accepted, the entry was appended by one step, after all that was seen, and there is a packet
+    /// of what it changes in the rows, from the old front to the new one. Else there is none, and
+    /// the reply is `Duplicate`, `Absent` or `LogFull` exactly where the log refuses the entry,
+    /// `NoMemory`, or `Stopped` where the domain had stopped or the log has moved; where it has
+    /// moved the domain stops. What is not accepted leaves the rest as it was. All memory is taken
+    /// before the step. Cost: two look-ups by the key, three for a Delete or an Update, and copies
+    /// of the entry and of the rows that it changes.
+    pub fn receive(&mut self, alloc: Global, book: &Book<J>, write: Write<J>) -> Option<Outcome<J>>
         requires base { write.base ≡ self.old.front.base }
         ensures base { self.new.front.base ≡ self.old.front.base }
-        ensures stopped { self.old.stopped ≡ true → (self.new ≡ self.old) × IsSome result × IfSome result (λ r. IsErr r × IfErr r (λ d. d.refused ≡ Refused.Stopped)) }
-        ensures front { IfSome result (λ r. IfErr r (λ d. d.front.base ≡ write.base)) }
+        ensures stopped { self.old.stopped ≡ true → (self.new ≡ self.old) × IsSome result × IfSome result (λ o. IsErr o.reply × IfErr o.reply (λ d. d.refused ≡ Refused.Stopped)) }
+        ensures front { IfSome result (λ o. IfErr o.reply (λ d. d.front.base ≡ write.base)) }
         ensures ignored { IfNone result (self.new ≡ self.old) }
         ensures late { IfNone result ((length self.old.next ≤ write.session) ⊎ (write.number < slice_index_or self.old.next write.session 0)) }
-        ensures accepted { IfSome result (λ r. IfOk r (λ w. Takes J.plan self.old write w self.new)) }
-        ensures declined { IfSome result (λ r. IfErr r (λ d. Declines J.plan self.old write d self.new)) }
+        ensures accepted { IfSome result (λ o. IfOk o.reply (λ w. Takes J.plan self.old write w self.new)) }
+        ensures declined { IfSome result (λ o. IfErr o.reply (λ d. Declines J.plan self.old write d self.new)) }
+        ensures sent { IfSome result (λ o. IfOk o.reply (λ w. IsSomeAnd o.packet (λ k. Sends J.plan self.old.front write.entry k self.new.front))) }
+        ensures unsent { IfSome result (λ o. IfErr o.reply (λ d. o.packet ≡ None)) }
     {
         if self.stopped {
-            return Some(Err(self.decline(write, Refused::Stopped)));
+            return Some(Outcome::of_declined(self.decline(write, Refused::Stopped)));
         }
         if !self.rises(write.session, write.number) {
             return None;
         }
         match self.shard.check(&write.entry) {
-            Err(refused) => Some(Err(self.refuse(book, write, refused))),
+            Err(refused) => Some(Outcome::of_declined(self.refuse(book, write, refused))),
             Ok(()) => Some(self.accept(alloc, book, write)),
         }
     }
@@ -197,20 +236,22 @@ impl<J: Naming> BaseDomain<J> {
     }
 
     // Appends the entry of a write that the log allows, all room made before.
-    fn accept(&mut self, alloc: Global, book: &Book<J>, write: Write<J>) -> Reply<J>
+    fn accept(&mut self, alloc: Global, book: &Book<J>, write: Write<J>) -> Outcome<J>
         requires base { write.base ≡ self.old.front.base }
         requires free { refusal_at J.plan self.old.front write.entry ≡ None }
         requires place { write.session < length self.old.next }
         requires rises { slice_index_or self.old.next write.session 0 ≤ write.number }
         requires running { self.old.stopped ≡ false }
         ensures base { self.new.front.base ≡ self.old.front.base }
-        ensures front { IfErr result (λ d. d.front.base ≡ self.old.front.base) }
-        ensures accepted { IfOk result (λ w. Takes J.plan self.old write w self.new) }
-        ensures answer { IfErr result (λ d. IsAnswer write d) }
-        ensures declined { IfErr result (λ d. ((d.refused ≡ Refused.NoMemory) × (self.new ≡ self.old)) ⊎ Stops self.old d self.new) }
+        ensures front { IfErr result.reply (λ d. d.front.base ≡ self.old.front.base) }
+        ensures accepted { IfOk result.reply (λ w. Takes J.plan self.old write w self.new) }
+        ensures answer { IfErr result.reply (λ d. IsAnswer write d) }
+        ensures declined { IfErr result.reply (λ d. ((d.refused ≡ Refused.NoMemory) × (self.new ≡ self.old)) ⊎ Stops self.old d self.new) }
+        ensures sent { IfOk result.reply (λ w. IsSomeAnd result.packet (λ k. Sends J.plan self.old.front write.entry k self.new.front)) }
+        ensures unsent { IfErr result.reply (λ d. result.packet ≡ None) }
     {
-        let Ok(kept) = room_for(alloc, &mut self.shard, &write.entry) else {
-            return Err(self.decline(write, Refused::NoMemory));
+        let Ok(ready) = ready_for(alloc, &mut self.shard, &write.entry) else {
+            return Outcome::of_declined(self.decline(write, Refused::NoMemory));
         };
         let Write {
             session,
@@ -218,17 +259,22 @@ impl<J: Naming> BaseDomain<J> {
             entry,
             ..
         } = write;
+        let from = self.front.len();
         let mut front = self.front.again();
         match front.write(book, session as u64, number, entry) {
             Ok(written) => {
+                let packet = BasePacket::new(from, front.again(), ready.changes);
                 self.front = front;
                 self.next[session] = number + 1;
-                self.shard.commit(kept);
-                Ok(written)
+                self.shard.commit(ready.kept);
+                Outcome {
+                    reply: Ok(written),
+                    packet: Some(packet),
+                }
             }
             Err(entry) => {
                 self.stopped = true;
-                Err(Declined {
+                Outcome::of_declined(Declined {
                     session,
                     number,
                     entry,
@@ -240,10 +286,13 @@ impl<J: Naming> BaseDomain<J> {
     }
 }
 
-// A copy of the entry, for which the shard then has room.
-fn room_for(alloc: Global, shard: &mut BaseShard, entry: &Entry) -> Result<Entry, AllocError>
+// The records of an entry and a copy of it, for which the shard then has room.
+fn ready_for(alloc: Global, shard: &mut BaseShard, entry: &Entry) -> Result<Ready, AllocError>
     requires key { HasKey shard.old.key (change_of entry.now) }
-    ensures kept { IfOk result (λ e. change_of e ≡ change_of entry.now) }
+    requires lawful { refusal_over shard.old.key shard.old.limit shard.old.rows shard.old.length (change_of entry.now) ≡ None }
+    ensures kept { IfOk result (λ r. change_of r.kept ≡ change_of entry.now) }
+    ensures records { IfOk result (λ r. (front : List Change) → IsAt shard.old front → r.changes.items ≡ records_of shard.old.key (rows_of shard.old.key front) (change_of entry.now)) }
+    ensures turns { IfOk result (λ r. (front : List Change) → IsAt shard.old front → Turns (rows_of shard.old.key front) r.changes.items (rows_of shard.old.key (front ++ change_of entry.now ∷ []))) }
     ensures room { OnOk result (HasRoom shard.new (change_of entry.now)) }
     ensures rows { shard.new.rows ≡ shard.old.rows }
     ensures length { shard.new.length ≡ shard.old.length }
@@ -251,9 +300,10 @@ fn room_for(alloc: Global, shard: &mut BaseShard, entry: &Entry) -> Result<Entry
     ensures limit { shard.new.limit ≡ shard.old.limit }
     ensures front { (front : List Change) → IsAt shard.old front → IsAt shard.new front }
 {
+    let changes = shard.changes(alloc, entry)?;
     let kept = entry.copied(alloc)?;
     match shard.reserve(alloc, entry) {
-        Ok(()) => Ok(kept),
+        Ok(()) => Ok(Ready { kept, changes }),
         Err(_) => Err(AllocError),
     }
 }

@@ -3,5 +3,6 @@
 
 pub mod base_domain;
 pub mod message;
+pub mod packet;
 #[cfg(test)]
 mod tests;

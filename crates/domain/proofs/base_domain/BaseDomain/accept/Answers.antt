@@ -6,18 +6,31 @@ use Rattle.book.specs.Logs.{Change}
 use Rattle.book.specs.Fronts.{FrontView, entries, authors}
 use Rattle.base.specs.Shards.{IsAt}
 use Rattle.domain.proofs.Calls.{absent, rows_refusal, same_refusal, domain_next}
+use Rattle.domain.proofs.Packets.{packet_true, sends}
 use Rattle.domain.proofs.base_domain.BaseDomain.accept.Goals as goal
 
 pub write-requires-clause-number : goal.write-requires-clause-number
-write-requires-clause-number g c κs le =
+write-requires-clause-number g c =
     let rises = rw (← c.self.view_is, ← c.write.view_is) at c.requires.rises in
     subst (λ (f : FrontView). Each (λ (a : Author). a.session ≡ c.write.inside.session → a.number < c.write.inside.number) (authors f)) (sym c.again-front.ensures) (absent c.self.inside.next.items c.write.inside.session c.write.inside.number (authors c.self.inside.front) c.self.invariant.numbers rises)
+
+pub ready_for-requires-clause-lawful : goal.ready_for-requires-clause-lawful
+ready_for-requires-clause-lawful g c =
+    let free = rw (← c.self.view_is, ← c.write.view_is) at c.requires.free in
+    rows_refusal g.J.Naming.plan c.self.inside.shard c.self.inside.front c.self.inside.next.items (change_of c.write.inside.entry) c.self.invariant ∙ free
+
+pub new-packet-requires : goal.new-packet-requires
+new-packet-requires g c =
+    let f = c.self.inside.front in
+    let appended = rw c.again-front.ensures at c.in-Ok-write.ensures.accepted.0 in
+    packet_true g.J.Naming.plan f c.write-2.new.self c.again.result c.write.inside.session c.write.inside.number (change_of c.write.inside.entry) c.len-from.result c.self.inside.shard.key c.in-Ok.ready.changes.items c.len-from.ensures.len c.again.ensures c.self.invariant.key c.self.invariant.len appended
+    (c.in-Ok.ensures.turns (entries f) c.self.invariant.at)
 
 pub commit-requires-clause-lawful : goal.commit-requires-clause-lawful
 commit-requires-clause-lawful g c =
     let e = c.in-Ok.ensures in
     let free = rw (← c.self.view_is, ← c.write.view_is) at c.requires.free in
-    same_refusal c.room_for.new.shard c.self.inside.shard (change_of c.in-Ok.kept) (change_of c.write.inside.entry) e.key e.limit e.rows e.length e.kept
+    same_refusal c.ready_for.new.shard c.self.inside.shard (change_of c.in-Ok.ready.kept) (change_of c.write.inside.entry) e.key e.limit e.rows e.length e.kept
     ∙ (rows_refusal g.J.Naming.plan c.self.inside.shard c.self.inside.front c.self.inside.next.items (change_of c.write.inside.entry) c.self.invariant ∙ free)
 
 pub invariant_of-self-in-Ok-write : goal.invariant_of-self-in-Ok-write
@@ -29,3 +42,10 @@ invariant_of-self-in-Ok-write g c =
     let appended = rw c.again-front.ensures at c.in-Ok-write.ensures.accepted.0 in
     let at : IsAt c.commit.new.self (entries f ++ change_of c.write.inside.entry ∷ []) = subst (λ (x : Change). IsAt c.commit.new.self (entries f ++ x ∷ [])) e.kept (c.commit.ensures.front (entries f) (e.front (entries f) c.self.invariant.at)) in
     domain_next g.J.Naming.plan c.self.inside.shard c.commit.new.self f c.write-2.new.self c.self.inside.next.items c.write.inside.session c.write.inside.number (change_of c.write.inside.entry) c.self.invariant appended at (c.commit.ensures.key ∙ e.key) (c.commit.ensures.limit ∙ e.limit) place rises
+
+pub returns-in-Ok-write-clause-sent : goal.returns-in-Ok-write-clause-sent
+returns-in-Ok-write-clause-sent g c =
+    let f = c.self.inside.front in
+    let appended = rw c.again-front.ensures at c.in-Ok-write.ensures.accepted.0 in
+    rw (← c.self.view_is, ← c.write.view_is) (sends g.J.Naming.plan f c.write-2.new.self c.again.result c.write.inside.session c.write.inside.number (change_of c.write.inside.entry) c.len-from.result c.self.inside.shard.key c.in-Ok.ready.changes.items
+    c.new-packet.result c.new-packet.ensures c.len-from.ensures.len c.again.ensures c.self.invariant.key appended (c.in-Ok.ensures.records (entries f) c.self.invariant.at) (c.in-Ok.ensures.turns (entries f) c.self.invariant.at))
