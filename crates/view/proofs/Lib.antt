@@ -1,0 +1,5 @@
+pub mod Keys
+pub mod Loops
+pub mod Answers
+pub mod Rises
+pub mod Zeros

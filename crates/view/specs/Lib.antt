@@ -1,0 +1,4 @@
+pub mod Directories
+pub mod Snapshots
+pub mod Sights
+pub mod Looks

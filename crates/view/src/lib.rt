@@ -1,0 +1,13 @@
+//! Shown copies: the answers of one shard of a view, read with no lock while its writer changes
+//! them. (Of the Noria paper: views that readers look at while writes go on; the two copies are
+//! those of its crate `evmap`, now `left-right`.)
+#![tactic(auto)]
+
+pub mod delta;
+pub mod directory;
+pub mod reader;
+mod rule;
+mod shown;
+#[cfg(test)]
+mod tests;
+pub mod writer;

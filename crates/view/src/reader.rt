@@ -1,0 +1,200 @@
+//! Readers of a shown copy.
+ghost use Rattle.std.specs.Prelude.{◌≡◌, false, IfOk, IfErr, IfSome, None};
+ghost use Rattle.left_right.specs.Sides.{view as sight_of};
+ghost use Rattle.row.specs.Cells.{datum_of};
+ghost use Rattle.book.specs.Histories.{view_shard};
+ghost use Rattle.view.specs.Looks.{OnHit, OnMiss};
+ghost use Rattle.view.specs.Snapshots.{Snapshot, IsLater, is_shown, rows_shown};
+ghost use Rattle.view.specs.Sights.{IsOf, seen_or, nothing};
+
+use crate::rule::{Looks, Published, Sight};
+use crate::shown::Shown;
+use book::cut::Cut;
+use book::law::Naming;
+use core::mem::replace_with;
+use left_right::reader::Reader;
+use row::refused::Refused;
+use row::row::Row;
+use row::value::Value;
+use std::alloc::{AllocError, Global};
+use std::marker::Model;
+
+/// A reader of a shown copy, seen as what it has seen last.
+#[derive(Drop)]
+pub struct ShownReader<J: Naming> {
+    reader: Reader<Shown<J>, Sight, Published>,
+    view: usize,
+    shard: usize,
+}
+
+impl<J: Naming> Model for ShownReader<J> {
+    ghost use Rattle.std.specs.Prelude.{◌≡◌};
+    ghost use Rattle.left_right.specs.Sides.{view as sight_of};
+    ghost use Rattle.view.specs.Snapshots.{Snapshot};
+    ghost use Rattle.view.specs.Sights.{IsOf, seen_or, nothing};
+
+    ghost Value = { Snapshot };
+
+    ghost view = { λ r. seen_or nothing (sight_of r.reader.place) };
+
+    ghost invariant = { λ r. IsOf r.view r.shard (sight_of r.reader.place) };
+}
+
+/// What a look found: the rows of the key in order and the cut over which they are its answer, or
+/// that the key has no entry.
+#[derive(Drop)]
+pub enum Look<J: Naming> {
+    Hit(Vec<Row>, Cut<J>),
+    Miss,
+}
+
+impl<J: Naming> ShownReader<J> {
+    // A reader of this shard of this view that has looked once. Refused where the writer is gone,
+    // or the copy is of another shard, which no caller brings about.
+    pub(crate) fn over(
+        reader: Reader<Shown<J>, Sight, Published>,
+        view: usize,
+        shard: usize,
+    ) -> Result<ShownReader<J>, AllocError>
+        ensures view { IfOk result (λ r. r.view ≡ view) }
+        ensures shard { IfOk result (λ r. r.shard ≡ shard) }
+        ensures later { IfOk result (λ r. IfSome (sight_of reader.place) (λ s. IsLater s r)) }
+    {
+        let Ok(reading) = reader.enter_as::<Looks>() else {
+            return Err(AllocError);
+        };
+        let is_of = reading.get().view() == view && reading.get().shard() == shard;
+        let reader = reading.leave();
+        if !is_of {
+            return Err(AllocError);
+        }
+        Ok(ShownReader {
+            reader,
+            view,
+            shard,
+        })
+    }
+
+    /// One more reader of the same copy. Refused where each place for a reader is in use.
+    pub fn another(&self) -> Result<ShownReader<J>, AllocError>
+        ensures view { IfOk result (λ r. r.view ≡ self.now.view) }
+        ensures shard { IfOk result (λ r. r.shard ≡ self.now.shard) }
+    {
+        let reader = self.reader.factory().reader()?;
+        ShownReader::over(reader, self.view, self.shard)
+    }
+
+    /// The view whose rows it reads.
+    pub fn view(&self) -> usize
+        ensures { result ≡ self.now.view }
+    {
+        self.view
+    }
+
+    /// The shard of the view whose rows it reads.
+    pub fn shard(&self) -> usize
+        ensures { result ≡ self.now.shard }
+    {
+        self.shard
+    }
+
+    /// Looks a key of its shard up in what is shown, which is no less than what it has seen. It
+    /// waits for nobody. Refused with `NoMemory` for want of memory, or where the writer is gone;
+    /// it may then have seen more. Cost: one look-up, and copies of the rows and of the cut.
+    pub fn look(&mut self, alloc: Global, key: &Value) -> Result<Look<J>, Refused>
+        requires shard { view_shard J.plan self.old.view (datum_of key.now) ≡ self.old.shard }
+        ensures later { IsLater self.old self.new }
+        ensures hit { IfOk result (OnHit (λ rows cut. (rows ≡ rows_shown J.plan self.new (datum_of key.now)) × (cut ≡ self.new.cut))) }
+        ensures miss { IfOk result (OnMiss (is_shown self.new (datum_of key.now) ≡ false)) }
+        ensures only { IfErr result (λ e. e ≡ Refused.NoMemory) }
+    {
+        let (view, shard) = (self.view, self.shard);
+        replace_with(&mut self.reader, (alloc, key), |reader, (alloc, key)| {
+            look_by(reader, alloc, key, view, shard)
+        })
+    }
+
+    /// Looks at the cut of what is shown, which is no less than what it has seen. It waits for
+    /// nobody. Refused with `NoMemory` for want of memory, or where the writer is gone; it may
+    /// then have seen more.
+    pub fn cut(&mut self, alloc: Global) -> Result<Cut<J>, Refused>
+        ensures later { IsLater self.old self.new }
+        ensures cut { IfOk result (λ c. c ≡ self.new.cut) }
+        ensures only { IfErr result (λ e. e ≡ Refused.NoMemory) }
+    {
+        let (view, shard) = (self.view, self.shard);
+        replace_with(&mut self.reader, alloc, |reader, alloc| {
+            cut_by(reader, alloc, view, shard)
+        })
+    }
+}
+
+// The entry of the key in what is shown.
+fn look_by<J: Naming>(
+    reader: Reader<Shown<J>, Sight, Published>,
+    alloc: Global,
+    key: &Value,
+    view: usize,
+    shard: usize,
+) -> (Reader<Shown<J>, Sight, Published>, Result<Look<J>, Refused>)
+    requires of { IsOf view shard (sight_of reader.place) }
+    requires shard { view_shard J.plan view (datum_of key.now) ≡ shard }
+    ensures of { IsOf view shard (sight_of result.0.place) }
+    ensures later { IsLater (seen_or nothing (sight_of reader.place)) (seen_or nothing (sight_of result.0.place)) }
+    ensures hit { IfOk result.1 (OnHit (λ rows cut. (rows ≡ rows_shown J.plan (seen_or nothing (sight_of result.0.place)) (datum_of key.now)) × (cut ≡ (seen_or nothing (sight_of result.0.place)).cut))) }
+    ensures miss { IfOk result.1 (OnMiss (is_shown (seen_or nothing (sight_of result.0.place)) (datum_of key.now) ≡ false)) }
+    ensures only { IfErr result.1 (λ e. e ≡ Refused.NoMemory) }
+{
+    match reader.enter_as::<Looks>() {
+        Err(reader) => (reader, Err(Refused::NoMemory)),
+        Ok(reading) => {
+            let found = found(alloc, reading.get(), key);
+            (reading.leave(), found)
+        }
+    }
+}
+
+// The cut of what is shown.
+fn cut_by<J: Naming>(
+    reader: Reader<Shown<J>, Sight, Published>,
+    alloc: Global,
+    view: usize,
+    shard: usize,
+) -> (Reader<Shown<J>, Sight, Published>, Result<Cut<J>, Refused>)
+    requires of { IsOf view shard (sight_of reader.place) }
+    ensures of { IsOf view shard (sight_of result.0.place) }
+    ensures later { IsLater (seen_or nothing (sight_of reader.place)) (seen_or nothing (sight_of result.0.place)) }
+    ensures cut { IfOk result.1 (λ c. c ≡ (seen_or nothing (sight_of result.0.place)).cut) }
+    ensures only { IfErr result.1 (λ e. e ≡ Refused.NoMemory) }
+{
+    match reader.enter_as::<Looks>() {
+        Err(reader) => (reader, Err(Refused::NoMemory)),
+        Ok(reading) => {
+            let cut = reading.get().cut().again(alloc);
+            (reading.leave(), cut.map_err(|_| Refused::NoMemory))
+        }
+    }
+}
+
+// A copy of the key's entry and of the cut.
+fn found<J: Naming>(alloc: Global, shown: &Shown<J>, key: &Value) -> Result<Look<J>, Refused>
+    requires shard { view_shard J.plan shown.now.view (datum_of key.now) ≡ shown.now.shard }
+    ensures hit { IfOk result (OnHit (λ rows cut. (rows ≡ rows_shown J.plan shown.now (datum_of key.now)) × (cut ≡ shown.now.cut))) }
+    ensures miss { IfOk result (OnMiss (is_shown shown.now (datum_of key.now) ≡ false)) }
+    ensures only { IfErr result (λ e. e ≡ Refused.NoMemory) }
+{
+    let Some(rows) = shown.entry(key) else {
+        return Ok(Look::Miss);
+    };
+    Ok(Look::Hit(copies(alloc, rows)?, shown.cut().again(alloc)?))
+}
+
+fn copies(alloc: Global, rows: &[Row]) -> Result<Vec<Row>, AllocError>
+    ensures { IfOk result (λ v. v.items ≡ rows.now) }
+{
+    let mut copies = Vec::new(alloc);
+    for row in rows {
+        copies.push(row.copied(alloc)?)?;
+    }
+    Ok(copies)
+}

@@ -1,0 +1,151 @@
+//! What a shown copy holds.
+ghost use Rattle.std.specs.Prelude.{◌≡◌, ◌<◌, length, IfOk, IfSome, IsTrue, IsNone, IsSome, true, false};
+ghost use Rattle.row.specs.Cells.{datum_of};
+ghost use Rattle.book.specs.Histories.{view_shard};
+ghost use Rattle.plan.specs.Layouts.{view_at};
+ghost use Rattle.view.specs.Snapshots.{is_shown, key_column, rows_shown, zero_lengths};
+
+use crate::delta::Delta;
+use crate::directory::Directory;
+use crate::rule::Shot;
+use book::cut::Cut;
+use book::law::Naming;
+use book::part::Part;
+use left_right::Absorb;
+use plan::plan::Plan;
+use row::row::Row;
+use row::value::Value;
+use std::alloc::{AllocError, Global};
+use std::marker::Model;
+
+/// The rows of each key of one shard of a view, over one cut.
+#[derive(Drop)]
+pub struct Shown<J: Naming> {
+    alloc: Global,
+    view: usize,
+    shard: usize,
+    column: usize,
+    rows: Directory,
+    cut: Cut<J>,
+    asked: u64,
+}
+
+impl<J: Naming> Model for Shown<J> {
+    ghost use Rattle.std.specs.Prelude.{◌≡◌};
+    ghost use Rattle.view.specs.Directories.{rows_under};
+    ghost use Rattle.view.specs.Snapshots.{Snapshot, AreAnswers, key_column};
+
+    ghost Value = { Snapshot };
+
+    ghost view = { λ s. record { view = s.view; shard = s.shard; cut = s.cut; asked = s.asked } };
+
+    ghost invariant = { λ s. (s.column ≡ key_column J.plan s.view) × AreAnswers J.plan s.view s.shard s.cut (λ k. rows_under k s.rows.bags) };
+}
+
+impl<J: Naming> Shown<J> {
+    /// No rows, over no entries. Refused for want of memory alone.
+    pub fn new(
+        alloc: Global,
+        plan: &Plan,
+        view: usize,
+        shard: usize,
+        part: &Part<J>,
+    ) -> Result<Shown<J>, AllocError>
+        requires plan { plan.now ≡ J.plan }
+        requires view { view < length plan.now.views }
+        ensures view { IfOk result (λ s. s.view ≡ view) }
+        ensures shard { IfOk result (λ s. s.shard ≡ shard) }
+        ensures zeros { IfOk result (λ s. s.cut.lengths ≡ zero_lengths J.plan) }
+        ensures asked { IfOk result (λ s. s.asked ≡ 0) }
+    {
+        Ok(Shown {
+            alloc,
+            view,
+            shard,
+            column: key_column(plan, view),
+            rows: Directory::new(alloc),
+            cut: Cut::zeros(alloc, plan, part)?,
+            asked: 0,
+        })
+    }
+
+    /// The same over no entries, for a copy that has none. Refused for want of memory alone.
+    pub fn twin(&self) -> Result<Shown<J>, AllocError>
+        requires zeros { self.now.cut.lengths ≡ zero_lengths J.plan }
+        ensures { IfOk result (λ s. s ≡ self.now) }
+    {
+        Ok(Shown {
+            alloc: self.alloc,
+            view: self.view,
+            shard: self.shard,
+            column: self.column,
+            rows: Directory::new(self.alloc),
+            cut: self.cut.again(self.alloc)?,
+            asked: self.asked,
+        })
+    }
+
+    /// The entry of the key, whose shard this is. A full directory has one for each key.
+    pub fn entry(&self, key: &Value) -> Option<&[Row]>
+        requires { view_shard J.plan self.now.view (datum_of key.now) ≡ self.now.shard }
+        ensures rows { IfSome result (λ rows. rows.now ≡ rows_shown J.plan self.now (datum_of key.now)) }
+        ensures none { IsNone result → is_shown self.now (datum_of key.now) ≡ false }
+    {
+        Some(self.rows.rows(key))
+    }
+
+    /// The view.
+    pub fn view(&self) -> usize
+        ensures { result ≡ self.now.view }
+    {
+        self.view
+    }
+
+    /// The shard of the view.
+    pub fn shard(&self) -> usize
+        ensures { result ≡ self.now.shard }
+    {
+        self.shard
+    }
+
+    /// The cut.
+    pub fn cut(&self) -> &Cut<J>
+        ensures { result.now ≡ self.now.cut }
+    {
+        &self.cut
+    }
+}
+
+impl<J: Naming> Absorb<Delta<J>> for Shown<J> {
+    ghost use Rattle.view.specs.Snapshots.{applied as applied_to};
+
+    type State = Shot;
+
+    ghost state = { λ s. s };
+
+    ghost applied = { applied_to };
+
+    fn absorb_first(&mut self, delta: &Delta<J>, _other: &Shown<J>) -> Result<(), AllocError> {
+        if self.view != delta.view || self.shard != delta.shard || !delta.before.agrees(&self.cut) {
+            return Err(AllocError);
+        }
+        let after = delta.after.again(self.alloc)?;
+        self.rows
+            .apply(self.alloc, self.column, delta.changes.as_slice())?;
+        self.cut = after;
+        self.asked = delta.asked;
+        Ok(())
+    }
+}
+
+// The place of the view's key in an output row.
+fn key_column(plan: &Plan, view: usize) -> usize
+    requires view { view < length plan.now.views }
+    ensures { result ≡ key_column plan.now view }
+{
+    if plan.right().is_none() && plan.aggregate().is_some() {
+        0
+    } else {
+        plan.view(view).key()
+    }
+}

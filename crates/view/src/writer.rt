@@ -1,0 +1,142 @@
+//! The writer of a shown copy.
+ghost use Rattle.std.specs.Prelude.{◌≡◌, ◌<◌, ◌^◌, ◌++◌, ◌∷◌, [], drop as dropped, fold, length, IfOk, IfSome, Some, IfErr, OnOk, OnErr};
+ghost use Rattle.plan.specs.Layouts.{view_at};
+ghost use Rattle.left_right.specs.Sides.{view as sight_of};
+ghost use Rattle.view.specs.Sights.{IsChain};
+ghost use Rattle.view.specs.Snapshots.{Snapshot, IsLater, Starts, applied, zero_lengths};
+
+use crate::delta::Delta;
+use crate::reader::ShownReader;
+use crate::rule::{Looks, Published, Sight, Tells};
+use crate::shown::Shown;
+use book::cut::Cut;
+use book::law::Naming;
+use book::part::Part;
+use core::mem::replace_with;
+use crossbeam_utils::rule::Protocol;
+use left_right::Absorb;
+use left_right::writer::Writer;
+use plan::plan::Plan;
+use row::refused::Refused;
+use std::alloc::{AllocError, Global};
+use std::sync::Wait;
+
+/// A writer that may be dropped: it then waits for the readers that are inside.
+pub struct Board<T: Absorb<O> + Drop, O: Drop, V, P: Protocol<T, V>, R: Wait + Drop> {
+    writer: Writer<T, O, V, P>,
+    rt: R,
+}
+
+impl<T: Absorb<O> + Drop, O: Drop, V, P: Protocol<T, V>, R: Wait + Drop> Drop
+    for Board<T, O, V, P, R> {
+    fn drop(self) {
+        let Self { writer, rt } = self;
+        drop(writer.take(&rt));
+    }
+}
+
+/// The writing end of a shown copy.
+pub type ShownWriter<J, R> = Board<Shown<J>, Delta<J>, Sight, Published, R>;
+
+/// A shown copy of one shard of a view over no entries, with places for so many readers. Refused
+/// for want of memory alone.
+pub fn open<J: Naming, R: Wait + Drop>(
+    rt: R,
+    alloc: Global,
+    plan: &Plan,
+    view: usize,
+    shard: usize,
+    part: &Part<J>,
+    readers: usize,
+) -> Result<ShownWriter<J, R>, AllocError>
+    requires plan { plan.now ≡ J.plan }
+    requires view { view < length plan.now.views }
+    requires readers { (0 < readers) × (readers < 2 ^ 32) }
+    ensures of { IfOk result (λ w. (w.writer.desk.shown.value.view ≡ view) × (w.writer.desk.shown.value.shard ≡ shard)) }
+    ensures zeros { IfOk result (λ w. w.writer.desk.shown.value.cut.lengths ≡ zero_lengths J.plan) }
+    ensures asked { IfOk result (λ w. w.writer.desk.shown.value.asked ≡ 0) }
+    ensures pending { IfOk result (λ w. dropped w.writer.behind w.writer.log.items ≡ []) }
+{
+    let first = Shown::new(alloc, plan, view, shard, part)?;
+    let second = first.twin()?;
+    let writer = Writer::new(alloc, first, second, readers)?;
+    Ok(Board { writer, rt })
+}
+
+impl<J: Naming, R: Wait + Drop> ShownWriter<J, R> {
+    /// The cut of what readers see.
+    pub fn cut(&self) -> &Cut<J>
+        ensures { result.now ≡ self.now.writer.desk.shown.value.cut }
+    {
+        self.writer.published().cut()
+    }
+
+    /// A reader, which has looked once and sees no less than was published last. Refused with
+    /// `NoMemory`, also where each place for a reader is in use.
+    pub fn reader(&mut self) -> Result<ShownReader<J>, AllocError>
+        ensures view { IfOk result (λ r. r.view ≡ self.old.writer.desk.shown.value.view) }
+        ensures shard { IfOk result (λ r. r.shard ≡ self.old.writer.desk.shown.value.shard) }
+        ensures told { IfOk result (λ r. IfSome (sight_of self.old.writer.desk.place) (λ s. IsLater s r)) }
+        ensures sight { sight_of self.new.writer.desk.place ≡ sight_of self.old.writer.desk.place }
+        ensures shown { self.new.writer.desk.shown.value ≡ self.old.writer.desk.shown.value }
+        ensures pending { dropped self.new.writer.behind self.new.writer.log.items ≡ dropped self.old.writer.behind self.old.writer.log.items }
+    {
+        let shown = self.writer.published();
+        let (view, shard) = (shown.view(), shown.shard());
+        let mut reader = self.writer.factory().reader()?;
+        reader.learn::<Tells>(self.writer.tell::<Tells>());
+        ShownReader::over(reader, view, shard)
+    }
+
+    /// Puts a delta behind those that are not published yet; it starts where they end. Refused for
+    /// want of memory alone, and then nothing has changed. Readers see what they saw.
+    pub fn append(&mut self, delta: Delta<J>) -> Result<(), AllocError>
+        requires chain { IsChain self.old.writer.desk.shown.value (dropped self.old.writer.behind self.old.writer.log.items) }
+        requires starts { Starts (fold applied self.old.writer.desk.shown.value (dropped self.old.writer.behind self.old.writer.log.items)) delta }
+        ensures shown { self.new.writer.desk ≡ self.old.writer.desk }
+        ensures pending { OnOk result (dropped self.new.writer.behind self.new.writer.log.items ≡ dropped self.old.writer.behind self.old.writer.log.items ++ delta ∷ []) }
+        ensures err { OnErr result (dropped self.new.writer.behind self.new.writer.log.items ≡ dropped self.old.writer.behind self.old.writer.log.items) }
+        ensures chain { IsChain self.new.writer.desk.shown.value (dropped self.new.writer.behind self.new.writer.log.items) }
+    {
+        delta.grows();
+        match self.writer.append(delta) {
+            Ok(()) => Ok(()),
+            Err(_) => Err(AllocError),
+        }
+    }
+
+    /// Shows readers the copy with each delta that was appended, and waits for those that still
+    /// read the other. Refused for want of memory alone; readers then see what they saw, and the
+    /// deltas are still to be published. Cost: each record is applied to both copies.
+    pub fn publish(&mut self) -> Result<(), AllocError>
+        requires chain { IsChain self.old.writer.desk.shown.value (dropped self.old.writer.behind self.old.writer.log.items) }
+        ensures shown { OnOk result (self.new.writer.desk.shown.value ≡ fold applied self.old.writer.desk.shown.value (dropped self.old.writer.behind self.old.writer.log.items)) }
+        ensures done { OnOk result (dropped self.new.writer.behind self.new.writer.log.items ≡ []) }
+        ensures err { OnErr result ((self.new.writer.desk.shown.value ≡ self.old.writer.desk.shown.value) × (dropped self.new.writer.behind self.new.writer.log.items ≡ dropped self.old.writer.behind self.old.writer.log.items)) }
+        ensures later { IsLater self.old.writer.desk.shown.value self.new.writer.desk.shown.value }
+        ensures seen { OnOk result (sight_of self.new.writer.desk.place ≡ Some self.new.writer.desk.shown.value) }
+    {
+        replace_with(
+            &mut self.writer,
+            &self.rt,
+            |writer, rt| publish_by(rt, writer),
+        )
+    }
+}
+
+fn publish_by<J: Naming, R: Wait>(
+    rt: &R,
+    writer: Writer<Shown<J>, Delta<J>, Sight, Published>,
+) -> (
+    Writer<Shown<J>, Delta<J>, Sight, Published>,
+    Result<(), AllocError>,
+)
+    requires chain { IsChain writer.desk.shown.value (dropped writer.behind writer.log.items) }
+    ensures shown { OnOk result.1 (result.0.desk.shown.value ≡ fold applied writer.desk.shown.value (dropped writer.behind writer.log.items)) }
+    ensures done { OnOk result.1 (dropped result.0.behind result.0.log.items ≡ []) }
+    ensures err { OnErr result.1 ((result.0.desk.shown.value ≡ writer.desk.shown.value) × (dropped result.0.behind result.0.log.items ≡ dropped writer.behind writer.log.items)) }
+    ensures later { IsLater writer.desk.shown.value result.0.desk.shown.value }
+    ensures seen { OnOk result.1 (sight_of result.0.desk.place ≡ Some result.0.desk.shown.value) }
+{
+    writer.publish_as::<Looks, R>(rt)
+}
