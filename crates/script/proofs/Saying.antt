@@ -1,8 +1,8 @@
 -- What a line says, and the calls of lines, are determined.
-use Rattle.std.proofs.Common.{◌≡◌, ℕ, ◌+◌, ◌<◌, inl, inr, List, [], ◌∷◌, ◌++◌, length, Option, Some, None, refl, ap, sym, subst, ◌∙◌, arith, append_assoc}
+use Rattle.std.proofs.Common.{◌≡◌, ◌==◌, cond, ℕ, ◌+◌, ◌<◌, inl, inr, List, [], ◌∷◌, ◌++◌, length, Option, Some, None, refl, ap, sym, subst, ◌∙◌, arith, append_assoc}
 use Rattle.std.proofs.lemmas.List.{append-nil, length-append}
 use Rattle.script.specs.Words.{IsLine}
-use Rattle.script.specs.Commands.{Action, insert, fence, Asks}
+use Rattle.script.specs.Commands.{Action, insert, fence, try, read, closing, Asks}
 use Rattle.script.specs.Scripts.{IsComment, Says, Numbered, call_at, IsScript, IsFault, IsFirstFault}
 use Rattle.script.proofs.Scan.{line_once}
 
@@ -10,18 +10,32 @@ use Rattle.script.proofs.Scan.{line_once}
 asks_some : (action : Action) → Asks [] action → ⊥
 asks_some (insert table cells) a = let h = a.0 in cc
 asks_some fence a = cc a
+asks_some (try view key) a = cc a
+asks_some (read view key) a = cc a
+asks_some (closing view key) a = cc a
+
+-- names of commands have lengths of their own
+abbrev named : ℕ → (x y : List ℕ) → (ys : List (List ℕ)) → Action
+named n x y ys = cond (n == 6) (insert x (y ∷ ys)) (cond (n == 3) (try x y) (cond (n == 4) (read x y) (closing x y)))
+
+-- the action that words of some form ask for
+abbrev asked : List (List ℕ) → Action
+asked [] = fence
+asked (name ∷ []) = fence
+asked (name ∷ x ∷ []) = fence
+asked (name ∷ x ∷ y ∷ ys) = named (length name) x y ys
+
+asks_asked : (words : List (List ℕ)) (a : Action) → Asks words a → asked words ≡ a
+asks_asked words (insert table []) is = absurd (omega (arith, is.1))
+asks_asked words (insert table (cell ∷ cells)) is = ap asked is.0
+asks_asked words fence is = ap asked is
+asks_asked words (try view key) is = ap asked is
+asks_asked words (read view key) is = ap asked is
+asks_asked words (closing view key) is = ap asked is
 
 -- the same words ask for one action
 asks_once : (words : List (List ℕ)) (a b : Action) → Asks words a → Asks words b → a ≡ b
-asks_once words (insert t xs) (insert u ys) a b =
-    let h = a.0 in
-    let k = b.0 in
-    let same_table : t ≡ u = cc in
-    let same_cells : xs ≡ ys = cc in
-    ap (λ x. insert x xs) same_table ∙ ap (insert u) same_cells
-asks_once words (insert t xs) fence a b = let h = ap length a.0 in let k = ap length b in absurd (omega (arith, h, k))
-asks_once words fence (insert u ys) a b = let h = ap length a in let k = ap length b.0 in absurd (omega (arith, h, k))
-asks_once words fence fence a b = refl
+asks_once words a b is too = sym (asks_asked words a is) ∙ asks_asked words b too
 
 -- a line that is skipped is no call
 skipped_once : (line : List ℕ) (action : Action) → Says line None → Says line (Some action) → ⊥

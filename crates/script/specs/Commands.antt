@@ -3,17 +3,28 @@ use Rattle.std.specs.Prelude.{◌≡◌, ℕ, ◌<◌, List, [], ◌∷◌, leng
 use Rattle.script.specs.declared.command.Command.{Command}
 use Rattle.script.specs.declared.command.Command.TheVariants as code
 
--- a command: a row, cell by cell, for the table; or a fence
+-- a command: a row, cell by cell, for the table; a fence; or rows of a view by their key, where
+-- they are shown, at this place, or at the end
 pub data Action : Type 0 where
   insert : (table : List ℕ) (cells : List (List ℕ)) → Action
   fence : Action
+  try : (view key : List ℕ) → Action
+  read : (view key : List ℕ) → Action
+  closing : (view key : List ℕ) → Action
 
 -- the program's command as such
 abbrev pub action_of : Command → Action
 action_of (code.Insert table cells) = insert (string_bytes table) (map string_bytes cells.items)
 action_of code.Fence = fence
+action_of (code.Try view key) = try (string_bytes view) (string_bytes key)
+action_of (code.Read view key) = read (string_bytes view) (string_bytes key)
+action_of (code.Closing view key) = closing (string_bytes view) (string_bytes key)
 
--- the forms of commands, each after its name: `insert TABLE CELL..`, `fence`
+-- the forms of commands, each after its name: `insert TABLE CELL..`, `fence`, `try VIEW KEY`,
+-- `read VIEW KEY`, `closing VIEW KEY`
 abbrev pub Asks : List (List ℕ) → Action → Type 0
 Asks words (insert table cells) = (words ≡ codes "insert" ∷ table ∷ cells) × (0 < length cells)
 Asks words fence = words ≡ codes "fence" ∷ []
+Asks words (try view key) = words ≡ codes "try" ∷ view ∷ key ∷ []
+Asks words (read view key) = words ≡ codes "read" ∷ view ∷ key ∷ []
+Asks words (closing view key) = words ≡ codes "closing" ∷ view ∷ key ∷ []

@@ -27,6 +27,19 @@ fn insert(alloc: Global, line: usize, table: &str, cells: &[&str]) -> Result<Cal
     })
 }
 
+// The view and the key of the command of a line, and the command's name.
+fn told(alloc: Global, line: &str) -> Result<(&'static str, String, String), ScriptError> {
+    let Some(call) = read_script(alloc, line.as_bytes())?.pop() else {
+        return Err(ScriptError::BadScript { line: 1 });
+    };
+    match call.command {
+        Command::Try { view, key } => Ok(("try", view, key)),
+        Command::Read { view, key } => Ok(("read", view, key)),
+        Command::Closing { view, key } => Ok(("closing", view, key)),
+        _ => Err(ScriptError::BadScript { line: 1 }),
+    }
+}
+
 // The number of the line at which the script is refused, if it is.
 fn fault(alloc: Global, text: &[u8]) -> Result<Option<usize>, ScriptError> {
     match read_script(alloc, text) {
@@ -165,6 +178,53 @@ fn forms_of_commands(rt: HostRuntime) -> Result<(), Fail> {
     assert_eq!(rt; fault(alloc, b"insert stories 1")?, None);
     assert_eq!(rt; fault(alloc, b"insert stories 1 7 \"a")?, Some(1));
     assert_eq!(rt; fault(alloc, b" # no comment")?, Some(1));
+    Ok(())
+}
+
+#[test]
+fn reads_of_a_view(rt: HostRuntime) -> Result<(), Fail> {
+    let alloc = rt.alloc();
+    for (line, name, view, key) in [
+        ("try by_author 7", "try", "by_author", "7"),
+        (" \"try\"  \"by k\" \"\" ", "try", "by k", ""),
+        ("read by_author 7", "read", "by_author", "7"),
+        ("read \"c d\" \"a \\\" b\"", "read", "c d", "a \" b"),
+        ("closing by_k -1", "closing", "by_k", "-1"),
+        ("closing read try", "closing", "read", "try"),
+    ] {
+        let (was, of, at) = told(alloc, line)?;
+        assert_eq!(rt; was, name);
+        assert_eq!(rt; of.as_str(), view);
+        assert_eq!(rt; at.as_str(), key);
+    }
+    Ok(())
+}
+
+#[test]
+fn reads_of_no_form(rt: HostRuntime) -> Result<(), Fail> {
+    let alloc = rt.alloc();
+    for line in [
+        "try",
+        "try v",
+        "try v 1 2",
+        "read",
+        "read v",
+        "read v 1 2",
+        "closing",
+        "closing v",
+        "closing v 1 2",
+        "Read v 1",
+        "reads v 1",
+        "count v",
+        "want v 1",
+        "evict stage 1",
+        "delete t 1",
+        "update t 1",
+        "fence v",
+    ] {
+        assert_eq!(rt; fault(alloc, line.as_bytes())?, Some(1));
+    }
+    assert_eq!(rt; fault(alloc, b"read v 1\nread v\n")?, Some(2));
     Ok(())
 }
 
