@@ -18,6 +18,7 @@ use Rattle.book.proofs.Prefixes.{prefix_self, prefix_get, prefix_length}
 use Rattle.book.proofs.Fronts.{length_authors}
 use Rattle.book.proofs.Later.{at_most_trans, at_most_none}
 use Rattle.row.specs.declared.refused.Refused.{Refused}
+use Rattle.view.specs.Snapshots.{Snapshot}
 use Rattle.system.specs.Inserts.{base_of, first_of, stolen_refusal, call_refusal, IsTaken, IsAnswer, IsUntaken, Declines, untaken}
 use Rattle.system.specs.Callers.{Caller, IsWrote, accepted_at, whole_cut, IsCaller}
 
@@ -74,18 +75,18 @@ after_beyond a i b k n h x lt =
     omega (arith, lt, x.place, prefix_length (log_of b a) (log_of b (a ++ x.between)) (log_grows b a (a ++ x.between) grown))
 
 -- ---- the session afterwards
-pub caller_later : (p : Layout) (c : Caller) (m : ℕ) (t : Bool) (h : List Item) → IsCaller p c → IsPrefix c.seen h → IsCaller p (record { session = c.session; number = m; stolen = t; seen = h; accepted = c.accepted; floors = c.floors })
-caller_later p c m t h x grown = record {
+pub caller_later : (p : Layout) (c : Caller) (m : ℕ) (t : Bool) (h : List Item) (v : Snapshot) → IsCaller p c → IsPrefix c.seen h → IsCaller p (record { session = c.session; number = m; stolen = t; seen = h; accepted = c.accepted; floors = c.floors; shown = v })
+caller_later p c m t h v x grown = record {
   width = x.width;
   own = λ b k is. wrote_later c.seen h c.session b k grown (x.own b k is);
-  floors = λ v j lv lj. at_most_trans (floor_at c.floors v j) (whole_cut p c.seen) (whole_cut p h) (x.floors v j lv lj) (whole_later p c.seen h grown);
+  floors = λ i j lv lj. at_most_trans (floor_at c.floors i j) (whole_cut p c.seen) (whole_cut p h) (x.floors i j lv lj) (whole_later p c.seen h grown);
 }
 
 pub caller_taken : (p : Layout) (c : Caller) (m b k : ℕ) (e : Change) (h : List Item) → IsCaller p c → b < base_count p → IsAfter c.seen (write c.session c.number b e) b k h
-    → IsCaller p (record { session = c.session; number = m; stolen = c.stolen; seen = h; accepted = slice_set c.accepted b (Some k); floors = c.floors })
+    → IsCaller p (record { session = c.session; number = m; stolen = c.stolen; seen = h; accepted = slice_set c.accepted b (Some k); floors = c.floors; shown = c.shown })
 caller_taken p c m b k e h x lt after =
     let grown = after_grows c.seen (write c.session c.number b e) b k h after in
-    let later = caller_later p c m c.stolen h x grown in
+    let later = caller_later p c m c.stolen h c.shown x grown in
     record {
       width = length-set c.accepted b (Some k) ∙ x.width;
       own = λ d i is. step d i is (eqb_tells d b);
@@ -102,7 +103,7 @@ caller_taken p c m b k e h x lt after =
         wrote_later c.seen h c.session d i grown (x.own d i (sym (get_or-set_other c.accepted b d (Some k) None f.1) ∙ is))
 
 pub taken : (p : Layout) (c : Caller) (b k : ℕ) (e : Change) (h : List Item) → IsCaller p c → IsAfter c.seen (write c.session c.number b e) b k h
-    → IsTaken c (record { session = c.session; number = c.number + 1; stolen = c.stolen; seen = h; accepted = slice_set c.accepted b (Some k); floors = c.floors }) b e k
+    → IsTaken c (record { session = c.session; number = c.number + 1; stolen = c.stolen; seen = h; accepted = slice_set c.accepted b (Some k); floors = c.floors; shown = c.shown }) b e k
 taken p c b k e h x after = record {
   item = after;
   greatest = λ i is. after_beyond c.seen (write c.session c.number b e) b k i h after (wrote_within c.seen c.session b i (x.own b i is));
@@ -124,8 +125,8 @@ none_at (suc n) zero = refl
 none_at (suc n) (suc b) = none_at n b
 
 -- a session that has made no call
-pub caller_new : (p : Layout) (s : ℕ) (h : List Item) (accepted : List (Option ℕ)) (floors : Floors) → accepted ≡ replicate (base_count p) None → ((v j : ℕ) → floor_at floors v j ≡ []) → IsCaller p (record { session = s; number = 0; stolen = false; seen = h; accepted = accepted; floors = floors })
-caller_new p s h accepted floors is zeros = record {
+pub caller_new : (p : Layout) (s : ℕ) (h : List Item) (accepted : List (Option ℕ)) (floors : Floors) (shown : Snapshot) → accepted ≡ replicate (base_count p) None → ((v j : ℕ) → floor_at floors v j ≡ []) → IsCaller p (record { session = s; number = 0; stolen = false; seen = h; accepted = accepted; floors = floors; shown = shown })
+caller_new p s h accepted floors shown is zeros = record {
   width = ap length is ∙ length-replicate (base_count p) None;
   own = λ b k at. absurd (cc (sym (none_at (base_count p) b) ∙ (ap (λ l. accepted_at l b) (sym is) ∙ at)));
   floors = λ v j lv lj. subst (λ (d : Lengths). IsAtMost d (whole_cut p h)) (sym (zeros v j)) (at_most_none (whole_cut p h));

@@ -38,3 +38,9 @@ adopted_decides p seen front part d s m b e is_s is_m is_b is_e (inr (inr x)) me
       (subst (λ (n : ℕ). Each (λ (a : Author). a.session ≡ n → a.number < d.number) (authors_of d.front.base part)) is_s
       (subst (λ (l : List Author). Each (λ (a : Author). a.session ≡ d.session → a.number < d.number) l) (sym by) x.absent)));
 }
+
+-- where the log decided, the front is all of it
+pub decided_whole : (p : Layout) (d : DeclinedView) → IsAnswered p d → (d.refused ≡ NoMemory → ⊥) → (d.refused ≡ Stopped → ⊥) → d.front.len ≡ length (log_of d.front.base d.front.seen)
+decided_whole p d (inl x) memory stopped = absurd (memory x)
+decided_whole p d (inr (inl x)) memory stopped = absurd (stopped x)
+decided_whole p d (inr (inr x)) memory stopped = x.whole

@@ -1,3 +1,5 @@
 pub mod Histories
 pub mod Callers
 pub mod Fences
+pub mod Singles
+pub mod Looks

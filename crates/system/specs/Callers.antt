@@ -5,8 +5,10 @@ use Rattle.book.specs.Places.{base_count, sources}
 use Rattle.book.specs.Histories.{Item, Lengths, Floors, floor_at, log_of, authors_of}
 use Rattle.book.specs.Cuts.{IsAtMost}
 use Rattle.book.specs.Legal.{EachShard}
+use Rattle.view.specs.Snapshots.{Snapshot}
+use Rattle.system.specs.Served.{IsSingle}
 
--- who it is, the number of its next call, whether its word was moved by another, what it has seen, the greatest index accepted in each base shard, and its floors
+-- who it is, the number of its next call, whether its word was moved by another, what it has seen, the greatest index accepted in each base shard, its floors, and what it has last looked at
 pub record Caller : Type 0 where
   pub session : ℕ
   pub number : ℕ
@@ -14,6 +16,7 @@ pub record Caller : Type 0 where
   pub seen : List Item
   pub accepted : List (Option ℕ)
   pub floors : Floors
+  pub shown : Snapshot
 
 -- the entry at that place of the history is the session's
 pub record IsWrote (h : List Item) (s b k : ℕ) : Type 0 where
@@ -33,3 +36,10 @@ pub record IsCaller (p : Layout) (c : Caller) : Type 0 where
   pub width : length c.accepted ≡ base_count p
   pub own : (b k : ℕ) → accepted_at c.accepted b ≡ Some k → IsWrote c.seen c.session b k
   pub floors : EachShard p (λ v j. IsAtMost (floor_at c.floors v j) (whole_cut p c.seen))
+
+-- it looks at the one shard of the one view, and has seen no less there than its floor
+pub record IsLooking (p : Layout) (c : Caller) : Type 0 where
+  pub single : IsSingle p
+  pub view : c.shown.view ≡ 0
+  pub shard : c.shown.shard ≡ 0
+  pub floor : IsAtMost (floor_at c.floors 0 0) c.shown.cut.lengths

@@ -1,5 +1,5 @@
 -- What a fence does to its session.
-use Rattle.std.specs.Prelude.{◌≡◌, ◌⊎◌, ℕ, ◌+◌, ◌<◌, ◌≤◌, true, List, [], ◌∷◌, flat_map, length, Option, Some, None}
+use Rattle.std.specs.Prelude.{◌≡◌, ◌⊎◌, ℕ, ◌+◌, ◌<◌, ◌≤◌, true, List, [], ◌∷◌, flat_map, map, length, slice_index_or, Option, Some, None}
 use mathlib.Core.List.{IsPrefix}
 use Rattle.row.specs.declared.refused.Refused.{Refused}
 use Rattle.row.specs.declared.refused.Refused.TheVariants.{NoMemory, Stopped, Behind, Stolen}
@@ -10,6 +10,7 @@ use Rattle.book.specs.Fronts.{FrontView}
 use Rattle.book.specs.Legal.{EachShard}
 use Rattle.book.specs.Pages.{IsAdded}
 use Rattle.book.specs.Sessions.{own_word}
+use Rattle.view.specs.Snapshots.{Snapshot, IsLater}
 use Rattle.system.specs.Callers.{Caller, accepted_at}
 
 -- the place of an index, where there is one
@@ -41,11 +42,17 @@ pub record IsFenced (p : Layout) (old new : Caller) : Type 0 where
   pub grown : IsPrefix old.seen before
   pub item : IsAdded p (own_word p old.session) before (fence old.session (own_places p old.accepted) new.floors) new.seen
   pub floored : IsFloored p old.seen new
-  pub after : new ≡ record { session = old.session; number = old.number + 1; stolen = old.stolen; seen = new.seen; accepted = old.accepted; floors = new.floors }
+  pub after : new ≡ record { session = old.session; number = old.number + 1; stolen = old.stolen; seen = new.seen; accepted = old.accepted; floors = new.floors; shown = new.shown }
+  pub looked : IsLater old.shown new.shown
 
 -- a refused fence leaves the floors and what was accepted, and all that was seen, but where the word was moved by another
 pub record IsUnfenced (old new : Caller) (r : Refused) : Type 0 where
-  pub after : new ≡ record { session = old.session; number = new.number; stolen = new.stolen; seen = new.seen; accepted = old.accepted; floors = old.floors }
+  pub after : new ≡ record { session = old.session; number = new.number; stolen = new.stolen; seen = new.seen; accepted = old.accepted; floors = old.floors; shown = new.shown }
+  pub looked : IsLater old.shown new.shown
   pub grown : IsPrefix old.seen new.seen
   pub number : (new.number ≡ old.number) ⊎ (new.number ≡ old.number + 1)
   pub why : ((r ≡ NoMemory) ⊎ (r ≡ Stopped) ⊎ (r ≡ Behind)) × (new.seen ≡ old.seen) × (new.stolen ≡ old.stolen) ⊎ (r ≡ Stolen) × (new.stolen ≡ true)
+
+-- each front has the length that is shown of its source
+abbrev pub AreShown : Snapshot → List FrontView → Type 0
+AreShown s fs = (j : ℕ) → slice_index_or (map (λ (f : FrontView). f.len) fs) j 0 ≤ len_at s.cut.lengths 0 j

@@ -1,3 +1,6 @@
+pub mod Served
 pub mod Callers
 pub mod Inserts
 pub mod Fences
+pub mod Reads
+pub mod Messages

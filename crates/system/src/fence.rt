@@ -6,7 +6,8 @@ ghost use Rattle.book.specs.Fronts.{FrontView};
 ghost use Rattle.book.specs.Legal.{IsLegal};
 ghost use Rattle.book.specs.Places.{sources};
 ghost use Rattle.book.specs.Sessions.{places_of};
-ghost use Rattle.system.specs.Fences.{AreLonger};
+ghost use Rattle.system.specs.Fences.{AreLonger, AreShown};
+ghost use Rattle.system.specs.Reads.{HasLooked};
 
 use crate::session::Session;
 use crate::shared::{Ack, Marker, Shared, ToBase};
@@ -23,13 +24,14 @@ impl<J: Naming> Session<J> {
 
     /// Raises the floors, as one step: afterwards each floor has every entry of a source that the
     /// session had seen, and each of its own accepted writes there. It looks at each source's log,
-    /// sends a marker to each source's thread, and waits for their fronts.
+    /// sends a marker through each source's thread and the view's, and waits until it has come
+    /// through. The floors are the cut that is then shown.
     ///
     /// Refused with `Stolen` where the session's call numbers are spent or its word was moved by
-    /// another, `Stopped` where a source or the system has stopped, `Behind` where a source had
-    /// less than was seen of it, or `NoMemory`. A refused fence leaves the floors and what was
-    /// accepted, and but for `Stolen` what was seen. Cost: one message and one
-    /// acknowledgement for each source, and a cut for each shard of each view.
+    /// another, `Stopped` where a thread that it needs or the system has stopped, `Behind` where
+    /// less is shown of a source than was looked at, or `NoMemory`. A refused fence leaves the
+    /// floors and what was accepted, and but for `Stolen` what was seen. Cost: one message for
+    /// each source, one acknowledgement, and a cut for each shard of each view.
     pub fn fence<R: Wait>(&mut self, rt: &R, alloc: Global) -> Result<(), Refused>
         ensures legal { IsLegal J.plan J.sessions self.new.seen }
         ensures spent { stolen_refusal self.old ≡ Some Refused.Stolen → (result ≡ Err Refused.Stolen) × (self.new ≡ self.old) }
@@ -56,13 +58,38 @@ impl<J: Naming> Session<J> {
             session: self.word.number(),
             number: self.number,
         };
-        match acknowledged(rt, alloc, &self.shared, marker, looked.as_slice()) {
+        if let Err(refused) = passed_through(rt, &self.shared, marker) {
+            self.number += 1;
+            return Err(refused);
+        }
+        match self.shown_fronts(alloc, looked.as_slice()) {
             Ok(fronts) => self.end_fence(alloc, fronts.as_slice()),
             Err(refused) => {
                 self.number += 1;
                 Err(refused)
             }
         }
+    }
+
+    // The fronts of the sources in what is now shown, which are no shorter than what was looked at.
+    fn shown_fronts(&mut self, alloc: Global, looked: &[Front<J>]) -> Result<Vec<Front<J>>, Refused>
+        requires bases { map (λ (f : FrontView). f.base) looked.now ≡ sources J.plan }
+        ensures looked { HasLooked self.old self.new }
+        ensures bases { IfOk result (λ v. map (λ (f : FrontView). f.base) v.items ≡ map (λ (f : FrontView). f.base) looked.now) }
+        ensures longer { IfOk result (λ v. AreLonger looked.now v.items) }
+        ensures shown { IfOk result (λ v. AreShown self.new.shown v.items) }
+        ensures only { IfErr result (λ e. (e ≡ Refused.NoMemory) ⊎ (e ≡ Refused.Behind)) }
+    {
+        let cut = self.reader.cut(alloc)?;
+        let mut fronts = Vec::new(alloc);
+        for source in 0..looked.len() {
+            let shown = cut.front(0, source, looked[source].base());
+            if shown.len() < looked[source].len() {
+                return Err(Refused::Behind);
+            }
+            fronts.push(shown)?;
+        }
+        Ok(fronts)
     }
 
     // A front of each source that has all of its log, which is no less than was seen of it.
@@ -84,6 +111,7 @@ impl<J: Naming> Session<J> {
         requires bases { map (λ (f : FrontView). f.base) fronts.now ≡ sources J.plan }
         requires all { Each (IsCovering self.old.seen) fronts.now }
         requires number { self.old.number < 18446744073709551615 }
+        requires shown { AreShown self.old.shown fronts.now }
         ensures fenced { OnOk result (IsFenced J.plan self.old self.new) }
         ensures refused { IfErr result (λ e. IsUnfenced self.old self.new e) }
     {
@@ -136,50 +164,29 @@ fn send_markers<J: Naming, R: Wait>(
     Ok(())
 }
 
-// The front that each source had when a marker came to it, which is no shorter than what was looked
-// at.
-fn acknowledged<J: Naming, R: Wait>(
+// Sends a marker to each source, and waits until it has come through the view's shard.
+fn passed_through<J: Naming, R: Wait>(
     rt: &R,
-    alloc: Global,
     shared: &Shared<J>,
     marker: Marker,
-    looked: &[Front<J>],
-) -> Result<Vec<Front<J>>, Refused>
-    ensures bases { IfOk result (λ v. map (λ (f : FrontView). f.base) v.items ≡ map (λ (f : FrontView). f.base) looked.now) }
-    ensures longer { IfOk result (λ v. AreLonger looked.now v.items) }
-    ensures only { IfErr result (λ e. (e ≡ Refused.NoMemory) ⊎ (e ≡ Refused.Stopped) ⊎ (e ≡ Refused.Behind)) }
+) -> Result<(), Refused>
+    ensures only { IfErr result (λ e. (e ≡ Refused.NoMemory) ⊎ (e ≡ Refused.Stopped)) }
 {
     send_markers(rt, shared, marker)?;
-    let mut fronts = Vec::new(alloc);
-    for front in looked {
-        let Some(acked) = front_of_ack(rt, shared, marker, front.base()) else {
-            return Err(Refused::Stopped);
-        };
-        if acked.len() < front.len() {
-            return Err(Refused::Behind);
-        }
-        fronts.push(acked)?;
-    }
-    Ok(fronts)
-}
-
-// Waits for a source's acknowledgement of this marker, and gives its front; none where it has
-// stopped.
-fn front_of_ack<J: Naming, R: Wait>(
-    rt: &R,
-    shared: &Shared<J>,
-    marker: Marker,
-    base: usize,
-) -> Option<Front<J>>
-    ensures { IfSome result (λ f. f.base ≡ base) }
-{
     for _ in rt.forever() {
-        if let Some(Ack { marker: of, front }) = shared.take_ack(rt, marker.session, base) {
-            if of.session == marker.session && of.number == marker.number {
-                let front = front?;
-                if front.base() == base {
-                    return Some(front);
-                }
+        if let Some(
+            Ack {
+                marker: of,
+                running,
+            },
+        ) = shared.take_ack(rt, marker.session)
+        {
+            if of.number == marker.number {
+                return if running {
+                    Ok(())
+                } else {
+                    Err(Refused::Stopped)
+                };
             }
         }
     }

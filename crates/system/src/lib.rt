@@ -4,6 +4,8 @@
 mod call;
 mod fence;
 mod queue;
+pub mod read;
+mod served;
 pub mod session;
 mod shared;
 pub mod system;
@@ -11,4 +13,7 @@ pub mod system;
 mod tests;
 #[cfg(test)]
 mod tests_of_pace;
+#[cfg(test)]
+mod tests_of_reads;
+mod view_worker;
 mod worker;

@@ -13,6 +13,7 @@ ghost use Rattle.book.specs.Refusals.{write_refusal};
 ghost use Rattle.book.specs.Replies.{IsAfter, IsWhole};
 ghost use Rattle.base.specs.Shards.{HasKey};
 ghost use Rattle.domain.specs.Messages.{IsDecided, last_number};
+ghost use Rattle.system.specs.Served.{IsSingle};
 
 use crate::call::{Call, Told};
 use crate::shared::{Shared, ToBase};
@@ -30,6 +31,7 @@ use row::value::shard_of;
 use std::alloc::{AllocError, Global};
 use std::marker::Model;
 use std::sync::{Arc, Wait};
+use view::reader::ShownReader;
 
 /// Where an accepted write stands: its table's place in the plan, the shard of the table, and the
 /// index in that shard's log.
@@ -48,18 +50,19 @@ pub struct Session<J: Naming> {
     pub(crate) stolen: bool,
     pub(crate) seen: Part<J>,
     pub(crate) accepted: Vec<Option<u64>>,
+    pub(crate) reader: ShownReader<J>,
     pub(crate) shared: Arc<Shared<J>>,
 }
 
 impl<J: Naming> Model for Session<J> {
     ghost use Rattle.std.specs.Prelude.{◌≤◌};
-    ghost use Rattle.system.specs.Callers.{Caller, IsCaller};
+    ghost use Rattle.system.specs.Callers.{Caller, IsCaller, IsLooking};
 
     ghost Value = { Caller };
 
-    ghost view = { λ s. record { session = s.word.session; number = s.number; stolen = s.stolen; seen = s.seen; accepted = s.accepted.items; floors = s.word.floors } };
+    ghost view = { λ s. record { session = s.word.session; number = s.number; stolen = s.stolen; seen = s.seen; accepted = s.accepted.items; floors = s.word.floors; shown = s.reader } };
 
-    ghost invariant = { λ s. IsCaller J.plan (record { session = s.word.session; number = s.number; stolen = s.stolen; seen = s.seen; accepted = s.accepted.items; floors = s.word.floors }) × (s.word.answered ≤ s.number) };
+    ghost invariant = { λ s. IsCaller J.plan (record { session = s.word.session; number = s.number; stolen = s.stolen; seen = s.seen; accepted = s.accepted.items; floors = s.word.floors; shown = s.reader }) × (s.word.answered ≤ s.number) × IsLooking J.plan (record { session = s.word.session; number = s.number; stolen = s.stolen; seen = s.seen; accepted = s.accepted.items; floors = s.word.floors; shown = s.reader }) };
 }
 
 impl<J: Naming> Session<J> {
@@ -71,9 +74,12 @@ impl<J: Naming> Session<J> {
         alloc: Global,
         number: usize,
         start: &Front<J>,
+        reader: ShownReader<J>,
         shared: Arc<Shared<J>>,
     ) -> Result<Session<J>, AllocError>
         requires number { number < J.sessions }
+        requires single { IsSingle J.plan }
+        requires reader { (reader.view ≡ 0) × (reader.shard ≡ 0) }
         ensures session { IfOk result (λ s. s.session ≡ number) }
         ensures number { IfOk result (λ s. s.number ≡ 0) }
         ensures unspent { IfOk result (λ s. s.stolen ≡ false) }
@@ -89,6 +95,7 @@ impl<J: Naming> Session<J> {
             stolen: false,
             seen: start.part(),
             accepted,
+            reader,
             shared,
         })
     }

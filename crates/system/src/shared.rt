@@ -5,10 +5,10 @@ ghost use Rattle.book.specs.Places.{base_count, sources};
 
 use crate::queue::{Mailbox, PutError, Queue};
 use book::book::Book;
-use book::front::Front;
 use book::law::Naming;
 use book::places;
 use domain::message::{Reply, Write};
+use domain::packet::BasePacket;
 use plan::plan::Plan;
 use row::refused::Refused;
 use std::alloc::{AllocError, Global};
@@ -29,15 +29,22 @@ pub enum ToBase<J: Naming> {
     Marker(Marker),
 }
 
-/// A base shard's answer to a marker: the front that it then had; none where it has stopped.
+/// A message to the view's shard.
 #[derive(Drop)]
-pub struct Ack<J: Naming> {
-    pub marker: Marker,
-    pub front: Option<Front<J>>,
+pub enum ToView<J: Naming> {
+    Packet(BasePacket<J>),
+    Marker(Marker),
 }
 
-/// The plan, the book, and the ways between the threads: a queue to each base shard, for each
-/// session a mailbox for replies, and for each session and base shard one for acknowledgements.
+/// What a marker ends with: whether all that it came to were running.
+#[derive(Clone, Copy)]
+pub struct Ack {
+    pub marker: Marker,
+    pub running: bool,
+}
+
+/// The plan, the book, and the ways between the threads: a queue to each base shard and one to the
+/// view's shard, and for each session a mailbox for replies and one for acknowledgements.
 #[derive(Drop)]
 pub struct Shared<J: Naming> {
     plan: Plan,
@@ -45,7 +52,8 @@ pub struct Shared<J: Naming> {
     sources: Vec<usize>,
     queues: Vec<Queue<ToBase<J>>>,
     replies: Vec<Mailbox<Reply<J>>>,
-    acks: Vec<Mailbox<Ack<J>>>,
+    acks: Vec<Mailbox<Ack>>,
+    to_view: Queue<ToView<J>>,
 }
 
 impl<J: Naming> Model for Shared<J> {
@@ -73,9 +81,8 @@ impl<J: Naming> Shared<J> {
         requires few { sessions < 17 }
     {
         let sources = places::sources(alloc, &plan)?;
-        let bases = book.bases();
         let mut queues = Vec::new(alloc);
-        for _base in 0..bases {
+        for _base in 0..book.bases() {
             queues.push(Queue::new(alloc))?;
         }
         Ok(Shared {
@@ -84,7 +91,8 @@ impl<J: Naming> Shared<J> {
             sources,
             queues,
             replies: mailboxes(alloc, sessions)?,
-            acks: mailboxes(alloc, sessions * bases)?,
+            acks: mailboxes(alloc, sessions)?,
+            to_view: Queue::new(alloc),
         })
     }
 
@@ -128,7 +136,7 @@ impl<J: Naming> Shared<J> {
         self.queues.get(base)?.take(rt)
     }
 
-    /// Closes the queues: nothing more is taken, and what was sent is still answered.
+    /// Closes the queues to the base shards: nothing more is taken, and what was sent is still answered.
     pub fn close<R: Wait>(&self, rt: &R) {
         for queue in &self.queues {
             queue.close(rt);
@@ -147,21 +155,38 @@ impl<J: Naming> Shared<J> {
         self.replies.get(session)?.take(rt)
     }
 
-    /// Gives a session the acknowledgement of its fence by a base shard.
-    pub fn acknowledge<R: Wait>(&self, rt: &R, base: usize, ack: Ack<J>) {
-        if let Some(place) = self.ack_place(ack.marker.session, base) {
+    /// Gives a session the acknowledgement of its fence.
+    pub fn acknowledge<R: Wait>(&self, rt: &R, ack: Ack) {
+        if let Some(place) = self.acks.get(ack.marker.session) {
             place.put(rt, ack);
         }
     }
 
-    /// Waits for an acknowledgement of a session's fence by a base shard.
-    pub fn take_ack<R: Wait>(&self, rt: &R, session: usize, base: usize) -> Option<Ack<J>> {
-        self.ack_place(session, base)?.take(rt)
+    /// Waits for an acknowledgement of a session's fence.
+    pub fn take_ack<R: Wait>(&self, rt: &R, session: usize) -> Option<Ack> {
+        self.acks.get(session)?.take(rt)
     }
 
-    fn ack_place(&self, session: usize, base: usize) -> Option<&Mailbox<Ack<J>>> {
-        let place = session.checked_mul(self.queues.len())?.checked_add(base)?;
-        self.acks.get(place)
+    /// Sends a message to the view's shard. Refused with `Stopped` where the system has stopped, or
+    /// `NoMemory`.
+    pub fn forward<R: Wait>(&self, rt: &R, message: ToView<J>) -> Result<(), Refused>
+        ensures only { IfErr result (λ e. (e ≡ Refused.NoMemory) ⊎ (e ≡ Refused.Stopped)) }
+    {
+        match self.to_view.put(rt, message) {
+            Ok(()) => Ok(()),
+            Err(PutError::Closed) => Err(Refused::Stopped),
+            Err(PutError::NoMemory) => Err(Refused::NoMemory),
+        }
+    }
+
+    /// The next message to the view's shard; none once no more can come.
+    pub fn next_for_view<R: Wait>(&self, rt: &R) -> Option<ToView<J>> {
+        self.to_view.take(rt)
+    }
+
+    /// Closes the queue to the view's shard.
+    pub fn close_view<R: Wait>(&self, rt: &R) {
+        self.to_view.close(rt);
     }
 }
 

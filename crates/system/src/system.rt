@@ -1,10 +1,13 @@
 //! The store as it runs: its threads, and the sessions that it gives.
-ghost use Rattle.std.specs.Prelude.{◌≡◌, ◌⊎◌, ◌+◌, ◌<◌, ◌≤◌, ℕ, false, IfOk, OnOk, IfErr, OnErr, length, []};
+ghost use Rattle.std.specs.Prelude.{◌≡◌, ◌⊎◌, ◌+◌, ◌<◌, ◌≤◌, ℕ, false, IfOk, OnOk, IfErr, Err, OnErr, length, drop as dropped, []};
+ghost use Rattle.system.specs.Served.{IsSingle};
 ghost use Rattle.plan.specs.Layouts.{table_at};
 ghost use Rattle.book.specs.Histories.{floor_at};
 
+use crate::served::is_single;
 use crate::session::Session;
 use crate::shared::Shared;
+use crate::view_worker::view_work;
 use crate::worker::base_work;
 use book::book::Opened;
 use book::front::Front;
@@ -17,30 +20,37 @@ use std::alloc::Global;
 use std::marker::Model;
 use std::sync::{Arc, Wait};
 use std::thread::{self, JoinHandle, Threads};
+use view::reader::ShownReader;
+use view::writer::{self, ShownWriter};
 
 /// A running store. Its threads end with `stop`.
 #[derive(Drop)]
 pub struct System<J: Naming> {
     shared: Arc<Shared<J>>,
     start: Front<J>,
+    reader: ShownReader<J>,
     sessions: usize,
     given: usize,
     workers: Vec<JoinHandle<()>>,
+    view_worker: Option<JoinHandle<()>>,
 }
 
 impl<J: Naming> Model for System<J> {
     ghost use Rattle.std.specs.Prelude.{◌≡◌, ℕ, []};
+    ghost use Rattle.system.specs.Served.{IsSingle};
 
     ghost Value = { ℕ };
 
     // How many sessions it has given.
     ghost view = { λ s. s.given };
 
-    ghost invariant = { λ s. (s.start.seen ≡ []) × (s.sessions ≡ J.sessions) };
+    ghost invariant = { λ s. (s.start.seen ≡ []) × (s.sessions ≡ J.sessions) × IsSingle J.plan × (s.reader.view ≡ 0) × (s.reader.shard ≡ 0) };
 }
 
-impl<J: Naming + 'static> System<J> {
-    /// Starts a thread for each base shard of the plan that the book was opened on. Refused with
+impl<J: Naming + Send + Sync + 'static> System<J> {
+    /// Starts a thread for each base shard of the plan that the book was opened on, and one for its
+    /// view. Refused with `NotYet` exactly where the plan is not served yet: it has to have one
+    /// table and one view, one shard of everything, and a stage that passes each row on. Else with
     /// `NoMemory`, also where a thread is refused; the threads started by then have ended.
     pub fn start<R: Threads + Wait + Copy + Drop + Send + 'static>(
         rt: R,
@@ -53,21 +63,53 @@ impl<J: Naming + 'static> System<J> {
         requires plan { (opened.plan ≡ J.plan) × (plan ≡ J.plan) }
         requires sessions { (opened.sessions ≡ J.sessions) × (sessions ≡ J.sessions) }
         requires few { sessions < 17 }
+        ensures only { IfErr result (λ e. (e ≡ Refused.NotYet) ⊎ (e ≡ Refused.NoMemory)) }
+        ensures served { OnOk result (IsSingle plan) }
+        ensures unserved { (IsSingle plan → ⊥) → result ≡ Err Refused.NotYet }
+        ensures not_yet { IfErr result (λ e. e ≡ Refused.NotYet → IsSingle plan → ⊥) }
+        ensures none { IfOk result (λ s. s ≡ 0) }
+    {
+        if !is_single(&plan) {
+            return Err(Refused::NotYet);
+        }
+        match System::begin(rt, alloc, opened, plan, sessions) {
+            Ok(system) => Ok(system),
+            Err(refused) => Err(refused),
+        }
+    }
+
+    // Starts all threads, of a plan that is served.
+    fn begin<R: Threads + Wait + Copy + Drop + Send + 'static>(
+        rt: R,
+        alloc: Global,
+        opened: Opened,
+        plan: Plan,
+        sessions: usize,
+    ) -> Result<System<J>, Refused>
+        requires book { opened.book ≡ J.book }
+        requires plan { (opened.plan ≡ J.plan) × (plan ≡ J.plan) }
+        requires sessions { (opened.sessions ≡ J.sessions) × (sessions ≡ J.sessions) }
+        requires few { sessions < 17 }
+        requires single { IsSingle J.plan }
         ensures only { IfErr result (λ e. e ≡ Refused.NoMemory) }
         ensures none { IfOk result (λ s. s ≡ 0) }
     {
         plan.keeps_profile();
         let first = base_at(&plan, 0, 0);
         let (book, start) = opened.named::<J>(first);
+        let mut writer = writer::open(rt, alloc, &plan, 0, 0, &start.part(), sessions + 1)?;
+        let reader = writer.reader()?;
         let shared = Shared::new(alloc, plan, book, sessions)?;
         let mut system = System {
             shared: Arc::new(alloc, shared)?,
             start,
+            reader,
             sessions,
             given: 0,
             workers: Vec::new(alloc),
+            view_worker: None,
         };
-        match system.start_workers(rt, alloc) {
+        match system.start_workers(rt, alloc, writer) {
             Ok(()) => Ok(system),
             Err(refused) => {
                 system.stop(&rt);
@@ -76,15 +118,28 @@ impl<J: Naming + 'static> System<J> {
         }
     }
 
-    // Starts a thread for each shard of each table.
+    // Starts a thread for the view, and one for each shard of each table.
     fn start_workers<R: Threads + Wait + Copy + Drop + Send + 'static>(
         &mut self,
         rt: R,
         alloc: Global,
+        writer: ShownWriter<J, R>,
     ) -> Result<(), Refused>
+        requires of { (writer.writer.desk.shown.value.view ≡ 0) × (writer.writer.desk.shown.value.shard ≡ 0) }
+        requires pending { dropped writer.writer.behind writer.writer.log.items ≡ [] }
         ensures only { IfErr result (λ e. e ≡ Refused.NoMemory) }
         ensures given { self.new ≡ self.old }
     {
+        let shared = Arc::try_clone(&self.shared)?;
+        let work = move ||
+            requires single { IsSingle J.plan }
+            requires of { (writer.writer.desk.shown.value.view ≡ 0) × (writer.writer.desk.shown.value.shard ≡ 0) }
+            requires pending { dropped writer.writer.behind writer.writer.log.items ≡ [] }
+        { view_work(&rt, alloc, &shared, writer) };
+        match thread::spawn(&rt, work) {
+            Ok(worker) => self.view_worker = Some(worker),
+            Err(_) => return Err(Refused::NoMemory),
+        }
         for table in 0..self.shared.plan().tables() {
             for shard in 0..self.shared.plan().table(table).shards() {
                 self.start_worker(rt, alloc, table, shard)?;
@@ -137,21 +192,28 @@ impl<J: Naming + 'static> System<J> {
             return Err(Refused::NoSessionLeft);
         }
         let shared = Arc::try_clone(&self.shared)?;
-        let session = Session::new(alloc, self.given, &self.start, shared)?;
+        let reader = self.reader.another()?;
+        let session = Session::new(alloc, self.given, &self.start, reader, shared)?;
         self.given += 1;
         Ok(session)
     }
 
     /// Takes no more messages, lets the threads answer what was sent, and joins them. Later calls
-    /// of sessions that need a thread are refused with `Stopped`.
+    /// of sessions that need a thread are refused with `Stopped`; what is shown is still read. The
+    /// two shown copies are never freed.
     pub fn stop<R: Threads + Wait>(self, rt: &R) {
         let System {
             shared,
             workers,
+            view_worker,
             ..
         } = self;
         shared.close(rt);
         for worker in workers {
+            worker.join(rt);
+        }
+        shared.close_view(rt);
+        if let Some(worker) = view_worker {
             worker.join(rt);
         }
     }

@@ -25,9 +25,10 @@ fn note(alloc: Global, id: i128, author: i128) -> Result<Row, AllocError> {
     Ok(Row::new(cells))
 }
 
+// A thread to which memory was refused has stopped.
 fn fail(refused: Refused) -> Fail {
     match refused {
-        Refused::NoMemory => Fail::from(AllocError),
+        Refused::NoMemory | Refused::Stopped => Fail::from(AllocError),
         _ => Fail::from("refused"),
     }
 }
@@ -39,44 +40,41 @@ fn one_session(rt: HostRuntime) -> Result<(), Fail> {
     calls_of_one::<Brand, _>(rt, rt.alloc(), opened, plan)
 }
 
-fn calls_of_one<J: Naming + 'static, R: Threads + Wait + Abort + Copy + Drop + Send + 'static>(
-    rt: R,
-    alloc: Global,
-    opened: Opened,
-    plan: Plan,
-) -> Result<(), Fail>
+fn calls_of_one<
+    J: Naming + Send + Sync + 'static,
+    R: Threads + Wait + Abort + Copy + Drop + Send + 'static,
+>(rt: R, alloc: Global, opened: Opened, plan: Plan) -> Result<(), Fail>
     requires book { opened.book ≡ J.book }
     requires plan { (opened.plan ≡ J.plan) × (plan ≡ J.plan) }
     requires sessions { (opened.sessions ≡ J.sessions) × (J.sessions ≡ 1) }
 {
     let mut system = System::<J>::start(rt, alloc, opened, plan, 1).map_err(fail)?;
     let mut session = system.session(alloc).map_err(fail)?;
-    assert_eq!(rt; session.fence(&rt, alloc), Ok(()));
+    session.fence(&rt, alloc).map_err(fail)?;
     let first = Accepted {
         table: 0,
         shard: 0,
         index: 0,
     };
-    assert_eq!(rt;
-        session.insert(&rt, alloc, "notes", note(alloc, 1, 7)?),
-        Ok(first)
-    );
-    let again = session.insert(&rt, alloc, "notes", note(alloc, 1, 8)?);
-    assert_eq!(rt; again, Err(Refused::Duplicate));
+    let accepted = session.insert(&rt, alloc, "notes", note(alloc, 1, 7)?);
+    assert_eq!(rt; accepted.map_err(fail)?, first);
+    match session.insert(&rt, alloc, "notes", note(alloc, 1, 8)?) {
+        Err(Refused::Duplicate) => {}
+        Err(refused) => return Err(fail(refused)),
+        Ok(_) => return Err(Fail::from("a key twice")),
+    }
     let nowhere = session.insert(&rt, alloc, "nope", note(alloc, 2, 8)?);
     assert_eq!(rt; nowhere, Err(Refused::UnknownTable));
     let short = session.insert(&rt, alloc, "notes", Row::new(Vec::new(alloc)));
     assert_eq!(rt; short, Err(Refused::BadRow));
-    assert_eq!(rt; session.fence(&rt, alloc), Ok(()));
+    session.fence(&rt, alloc).map_err(fail)?;
     let second = Accepted {
         table: 0,
         shard: 0,
         index: 1,
     };
-    assert_eq!(rt;
-        session.insert(&rt, alloc, "notes", note(alloc, 2, 8)?),
-        Ok(second)
-    );
+    let accepted = session.insert(&rt, alloc, "notes", note(alloc, 2, 8)?);
+    assert_eq!(rt; accepted.map_err(fail)?, second);
     system.stop(&rt);
     let late = session.insert(&rt, alloc, "notes", note(alloc, 3, 8)?);
     assert_eq!(rt; late, Err(Refused::Stopped));
@@ -96,12 +94,10 @@ fn four_sessions_at_once(rt: HostRuntime) -> Result<(), Fail> {
     calls_of_four::<Brand, _>(rt, rt.alloc(), opened, plan)
 }
 
-fn calls_of_four<J: Naming + 'static, R: Threads + Wait + Abort + Copy + Drop + Send + 'static>(
-    rt: R,
-    alloc: Global,
-    opened: Opened,
-    plan: Plan,
-) -> Result<(), Fail>
+fn calls_of_four<
+    J: Naming + Send + Sync + 'static,
+    R: Threads + Wait + Abort + Copy + Drop + Send + 'static,
+>(rt: R, alloc: Global, opened: Opened, plan: Plan) -> Result<(), Fail>
     requires book { opened.book ≡ J.book }
     requires plan { (opened.plan ≡ J.plan) × (plan ≡ J.plan) }
     requires sessions { (opened.sessions ≡ J.sessions) × (J.sessions ≡ 4) }
@@ -174,12 +170,10 @@ fn sessions_that_meet(rt: HostRuntime) -> Result<(), Fail> {
     calls_of_two::<Brand, _>(rt, rt.alloc(), opened, plan)
 }
 
-fn calls_of_two<J: Naming + 'static, R: Threads + Wait + Abort + Copy + Drop + Send + 'static>(
-    rt: R,
-    alloc: Global,
-    opened: Opened,
-    plan: Plan,
-) -> Result<(), Fail>
+fn calls_of_two<
+    J: Naming + Send + Sync + 'static,
+    R: Threads + Wait + Abort + Copy + Drop + Send + 'static,
+>(rt: R, alloc: Global, opened: Opened, plan: Plan) -> Result<(), Fail>
     requires book { opened.book ≡ J.book }
     requires plan { (opened.plan ≡ J.plan) × (plan ≡ J.plan) }
     requires sessions { (opened.sessions ≡ J.sessions) × (J.sessions ≡ 2) }
@@ -192,11 +186,11 @@ fn calls_of_two<J: Naming + 'static, R: Threads + Wait + Abort + Copy + Drop + S
     first.meet(&mut second);
     let refused = second.insert(&rt, alloc, "notes", note(alloc, 1, 8)?);
     assert_eq!(rt; refused, Err(Refused::Duplicate));
-    assert_eq!(rt; second.fence(&rt, alloc), Ok(()));
+    second.fence(&rt, alloc).map_err(fail)?;
     let accepted = second.insert(&rt, alloc, "notes", note(alloc, 2, 8)?);
     assert!(rt; accepted.map_err(fail)?.index == 1);
     second.meet(&mut first);
-    assert_eq!(rt; first.fence(&rt, alloc), Ok(()));
+    first.fence(&rt, alloc).map_err(fail)?;
     system.stop(&rt);
     Ok(())
 }

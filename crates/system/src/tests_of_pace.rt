@@ -28,9 +28,10 @@ fn note(alloc: Global, id: usize) -> Result<Row, AllocError> {
     Ok(Row::new(cells))
 }
 
+// A thread to which memory was refused has stopped.
 fn fail(refused: Refused) -> Fail {
     match refused {
-        Refused::NoMemory => Fail::from(AllocError),
+        Refused::NoMemory | Refused::Stopped => Fail::from(AllocError),
         _ => Fail::from("refused"),
     }
 }
@@ -78,13 +79,10 @@ fn inserts_of_four_sessions(rt: HostRuntime) -> Result<(), Fail> {
 }
 
 // Sessions in threads of their own, each of which inserts rows of its own.
-fn inserts_at_once<J: Naming + 'static, R: Threads + Wait + Copy + Drop + Send + 'static>(
-    rt: R,
-    alloc: Global,
-    opened: Opened,
-    plan: Plan,
-    sessions: usize,
-) -> Result<(), Fail>
+fn inserts_at_once<
+    J: Naming + Send + Sync + 'static,
+    R: Threads + Wait + Copy + Drop + Send + 'static,
+>(rt: R, alloc: Global, opened: Opened, plan: Plan, sessions: usize) -> Result<(), Fail>
     requires book { opened.book ≡ J.book }
     requires plan { (opened.plan ≡ J.plan) × (plan ≡ J.plan) }
     requires sessions { (opened.sessions ≡ J.sessions) × (sessions ≡ J.sessions) }

@@ -1,6 +1,6 @@
 use Rattle.std.proofs.Common.{◌∙◌, inr, refl}
 use Rattle.book.specs.Entries.{change_of}
-use Rattle.system.proofs.Histories.{adopted_decides}
+use Rattle.system.proofs.Histories.{adopted_decides, decided_whole}
 use Rattle.system.proofs.call.Call.untaken.Goals as goal
 
 pub returns-clause-untaken : goal.returns-clause-untaken
@@ -15,3 +15,10 @@ returns-clause-untaken g c =
     (λ e. (let is = refused ∙ e in let false_is = rw is at c.if-eq.ensures in absurd (cc false_is)))
     (λ e. (let is = refused ∙ e in let false_is = rw is at c.if-eq-2.ensures in absurd (cc false_is)))
     c.requires.seen grown log by))
+
+pub adopt-requires-clause-other : goal.adopt-requires-clause-other
+adopt-requires-clause-other g c =
+    let refused = c.refused-refused.ensures in
+    rw (c.into_front.ensures.front) (decided_whole g.J.Naming.plan c.args.declined c.into_front.ensures.answered
+    (λ e. (let is = refused ∙ e in let false_is = rw is at c.if-eq.ensures in absurd (cc false_is)))
+    (λ e. (let is = refused ∙ e in let false_is = rw is at c.if-eq-2.ensures in absurd (cc false_is))))

@@ -1,0 +1,122 @@
+//! The thread of a view's shard.
+ghost use Rattle.std.specs.Prelude.{◌≡◌, [], true, drop as dropped, IfOk, OnOk, IfErr, OnErr, IsTrue, IfSome, IsSome, Some, None};
+ghost use Rattle.book.specs.Sessions.{with_length};
+ghost use Rattle.book.specs.Histories.{len_at};
+ghost use Rattle.system.specs.Messages.{OnMarker, OnPacket};
+ghost use Rattle.system.specs.Served.{IsSingle};
+
+use crate::shared::{Ack, Shared, ToView};
+use book::cut::Cut;
+use book::law::Naming;
+use domain::packet::BasePacket;
+use plan::plan::Plan;
+use row::refused::Refused;
+use std::alloc::Global;
+use std::mem;
+use std::sync::Wait;
+use view::delta::Delta;
+use view::writer::ShownWriter;
+
+/// Shows the packets one after the other, and acknowledges each fence, until the queue is closed
+/// and empty. What it has shown stays shown.
+pub fn view_work<J: Naming, R: Wait + Drop>(
+    rt: &R,
+    alloc: Global,
+    shared: &Shared<J>,
+    mut writer: ShownWriter<J, R>,
+)
+    requires single { IsSingle J.plan }
+    requires of { (writer.writer.desk.shown.value.view ≡ 0) × (writer.writer.desk.shown.value.shard ≡ 0) }
+    requires pending { dropped writer.writer.behind writer.writer.log.items ≡ [] }
+{
+    let mut running = true;
+    for _ in rt.forever() {
+        let Some(message) = shared.next_for_view(rt) else {
+            break;
+        };
+        let (goes_on, ack) = take(alloc, shared.plan(), &mut writer, running, message);
+        running = goes_on;
+        if let Some(ack) = ack {
+            shared.acknowledge(rt, ack);
+        }
+    }
+    mem::forget(writer);
+}
+
+// Takes one message: whether it goes on, and what it acknowledges.
+fn take<J: Naming, R: Wait + Drop>(
+    alloc: Global,
+    plan: &Plan,
+    writer: &mut ShownWriter<J, R>,
+    running: bool,
+    message: ToView<J>,
+) -> (bool, Option<Ack>)
+    requires plan { plan.now ≡ J.plan }
+    requires single { IsSingle J.plan }
+    requires of { (writer.old.writer.desk.shown.value.view ≡ 0) × (writer.old.writer.desk.shown.value.shard ≡ 0) }
+    requires pending { running ≡ true → dropped writer.old.writer.behind writer.old.writer.log.items ≡ [] }
+    ensures of { (writer.new.writer.desk.shown.value.view ≡ 0) × (writer.new.writer.desk.shown.value.shard ≡ 0) }
+    ensures pending { result.0 ≡ true → dropped writer.new.writer.behind writer.new.writer.log.items ≡ [] }
+    ensures stays { result.0 ≡ true → running ≡ true }
+    ensures shown { OnPacket (λ k. result.0 ≡ true → (len_at writer.old.writer.desk.shown.value.cut.lengths 0 0 ≡ k.from) × (writer.new.writer.desk.shown.value.cut.lengths ≡ with_length writer.old.writer.desk.shown.value.cut.lengths 0 0 k.to.len)) message }
+    ensures unacknowledged { OnPacket (λ k. result.1 ≡ None) message }
+    ensures acknowledged { OnMarker (λ m. (result.1 ≡ Some (record { marker = m; running = running })) × (writer.new.writer.desk.shown.value ≡ writer.old.writer.desk.shown.value) × (result.0 ≡ running)) message }
+{
+    match message {
+        ToView::Packet(packet) => (running && show(alloc, plan, writer, packet).is_ok(), None),
+        ToView::Marker(marker) => (running, Some(Ack { marker, running })),
+    }
+}
+
+// Shows what a packet changes.
+fn show<J: Naming, R: Wait + Drop>(
+    alloc: Global,
+    plan: &Plan,
+    writer: &mut ShownWriter<J, R>,
+    packet: BasePacket<J>,
+) -> Result<(), Refused>
+    requires plan { plan.now ≡ J.plan }
+    requires single { IsSingle J.plan }
+    requires of { (writer.old.writer.desk.shown.value.view ≡ 0) × (writer.old.writer.desk.shown.value.shard ≡ 0) }
+    requires pending { dropped writer.old.writer.behind writer.old.writer.log.items ≡ [] }
+    ensures of { (writer.new.writer.desk.shown.value.view ≡ 0) × (writer.new.writer.desk.shown.value.shard ≡ 0) }
+    ensures pending { OnOk result (dropped writer.new.writer.behind writer.new.writer.log.items ≡ []) }
+    ensures starts { OnOk result (len_at writer.old.writer.desk.shown.value.cut.lengths 0 0 ≡ packet.from) }
+    ensures shown { OnOk result (writer.new.writer.desk.shown.value.cut.lengths ≡ with_length writer.old.writer.desk.shown.value.cut.lengths 0 0 packet.to.len) }
+    ensures err { OnErr result (writer.new.writer.desk.shown.value ≡ writer.old.writer.desk.shown.value) }
+{
+    let delta = delta_of(alloc, plan, writer.cut(), packet)?;
+    writer.append(delta)?;
+    writer.publish()?;
+    Ok(())
+}
+
+// What a packet changes of the answers over this cut. Refused with `Gap` where it does not start
+// there, or `NoMemory`.
+fn delta_of<J: Naming>(
+    alloc: Global,
+    plan: &Plan,
+    cut: &Cut<J>,
+    packet: BasePacket<J>,
+) -> Result<Delta<J>, Refused>
+    requires plan { plan.now ≡ J.plan }
+    requires single { IsSingle J.plan }
+    ensures of { IfOk result (λ d. (d.view ≡ 0) × (d.shard ≡ 0)) }
+    ensures before { IfOk result (λ d. d.before ≡ cut.now) }
+    ensures starts { OnOk result (len_at cut.now.lengths 0 0 ≡ packet.from) }
+    ensures after { IfOk result (λ d. d.after.lengths ≡ with_length cut.now.lengths 0 0 packet.to.len) }
+{
+    if cut.lengths().len(0, 0) != packet.from() {
+        return Err(Refused::Gap);
+    }
+    let before = cut.again(alloc)?;
+    let mut after = cut.again(alloc)?;
+    cut.is_within();
+    packet.to().len();
+    packet.base();
+    after.advance(0, 0, packet.to());
+    let (_to, mut changes) = packet.into_parts();
+    let (key, stages) = (plan.left().key(), plan.stages());
+    changes.retain(|record| record.row.has_shard(key, stages, 0));
+    Ok(Delta::new(0, 0, before, after, changes, 0))
+}
