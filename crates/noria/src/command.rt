@@ -3,7 +3,7 @@ ghost use Rattle.std.specs.Prelude.{◌≡◌, ◌≤◌, ◌==◌, is_some, map
 ghost use Rattle.noria.specs.Arguments.{is_run};
 
 use crate::fault::Fault;
-use crate::runner::run_script;
+use crate::runner::run_files;
 use crate::texts::Texts;
 use std::alloc::Global;
 use std::io::Write;
@@ -11,12 +11,14 @@ use std::sync::Wait;
 use std::thread::Threads;
 
 /// What standard error has where the words are of no known form.
-pub const USAGE: &str = "usage: noria run built-in SCRIPT";
+pub const USAGE: &str =
+    "usage: noria run RECIPE SCRIPT | noria race RECIPE SCRIPT.. | noria replay RECIPE SCHEDULE";
 
 /// Runs the program on the words behind its name, and gives the exit status: 0 where all was run,
-/// also where single calls were refused; 1 where a file, the memory or the output was refused,
-/// with the refusal on `err`; 2 for any other words, with the usage line there. A failed write to
-/// `err` leaves the status as it is. All threads that it starts have ended.
+/// also where single calls were refused; 1 where a recipe, a script, the start, a file, the memory
+/// or the output was refused, with the refusal on `err`; 2 for any words but `run RECIPE SCRIPT`,
+/// with the usage line there. A failed write to `err` leaves the status as it is. All threads that
+/// it starts have ended.
 pub fn command<R: Threads + Wait + Copy + Drop + Send + 'static, T: Texts, O: Write, E: Write>(
     rt: R,
     alloc: Global,
@@ -28,11 +30,11 @@ pub fn command<R: Threads + Wait + Copy + Drop + Send + 'static, T: Texts, O: Wr
     ensures status { result ≤ 2 }
     ensures usage { (result == 2) ≡ not (is_run (map string_bytes words.now)) }
 {
-    let Some(script) = script_named(words) else {
+    let Some((recipe, script)) = files_named(words) else {
         let _ = writeln!(err, "{USAGE}");
         return 2;
     };
-    match run_script(rt, alloc, script, texts, out) {
+    match run_files(rt, alloc, recipe, script, texts, out) {
         Ok(()) => 0,
         Err(fault) => {
             let _ = writeln!(err, "{fault}");
@@ -41,13 +43,13 @@ pub fn command<R: Threads + Wait + Copy + Drop + Send + 'static, T: Texts, O: Wr
     }
 }
 
-// The name of the script, where the words are `run built-in SCRIPT`.
-fn script_named(words: &[String]) -> Option<&str>
+// The names of the recipe and the script, where the words are `run RECIPE SCRIPT`.
+fn files_named(words: &[String]) -> Option<(&str, &str)>
     ensures { is_some result ≡ is_run (map string_bytes words.now) }
 {
     match words {
-        [run, recipe, script] if run.as_str() == "run" && recipe.as_str() == "built-in" => {
-            Some(script.as_str())
+        [run, recipe, script] if run.as_str() == "run" => {
+            Some((recipe.as_str(), script.as_str()))
         }
         _ => None,
     }

@@ -1,13 +1,16 @@
 //! What ends a run.
+use recipe::error::PlanError;
 use row::refused::Refused;
 use script::script::ScriptError;
 use std::alloc::AllocError;
 use std::fmt;
 
-/// What ends a run: a refusal, or a line of the script that is of no known form.
+/// What ends a run: a refusal, a recipe that is refused, or a line of the script that is of no
+/// known form.
 #[derive(Clone, Copy, PartialEq, Eq, Debug)]
 pub enum Fault {
     Refused(Refused),
+    BadRecipe(PlanError),
     BadScript { line: usize },
 }
 
@@ -15,6 +18,7 @@ impl fmt::Display for Fault {
     fn fmt<W: fmt::Write>(&self, f: &mut fmt::Formatter<W>) -> fmt::Result {
         match self {
             Fault::Refused(refused) => write!(f, "refused {} {}", refused.number(), refused.name()),
+            Fault::BadRecipe(error) => write!(f, "refused {} {}", error.number(), error.name()),
             Fault::BadScript { line } => {
                 let refused = Refused::BadScript;
                 write!(
@@ -37,6 +41,12 @@ impl From<Refused> for Fault {
 impl From<AllocError> for Fault {
     fn from(_error: AllocError) -> Fault {
         Fault::Refused(Refused::NoMemory)
+    }
+}
+
+impl From<PlanError> for Fault {
+    fn from(error: PlanError) -> Fault {
+        Fault::BadRecipe(error)
     }
 }
 

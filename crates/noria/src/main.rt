@@ -1,8 +1,9 @@
-//! The program: one session runs a script over the built-in plan.
+//! The program: one session runs a script over the plan of a recipe.
 #![tactic(auto)]
 
 mod command;
 mod fault;
+mod reads;
 mod runner;
 #[cfg(test)]
 mod tests;

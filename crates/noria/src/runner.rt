@@ -1,12 +1,14 @@
-//! Runs a script: its calls one after the other, and a line of output for each.
+//! Runs a script: its calls one after the other, and the lines of output of each.
 ghost use Rattle.std.specs.Prelude.{◌≡◌};
 
 use crate::fault::Fault;
+use crate::reads::{read, try_read, write_rows};
 use crate::texts::Texts;
 use book::book::Opened;
 use book::law::Naming;
 use plan::kinds::Kind;
 use plan::plan::Plan;
+use recipe::recipe::from_bytes;
 use row::refused::Refused;
 use row::row::Row;
 use script::cell::value_of;
@@ -17,28 +19,46 @@ use std::io::{BufWriter, Write};
 use std::marker::Brand;
 use std::sync::Wait;
 use std::thread::Threads;
+use system::read::Found;
 use system::session::{Accepted, Session};
 use system::system::System;
 
-/// Reads and checks the script of this name, runs its calls over the built-in plan, and writes a
-/// line for each answer. A refused call is a line too, and the script goes on. Where the output
-/// cannot be written, no further call is made. All threads that it starts have ended.
-pub fn run_script<R: Threads + Wait + Copy + Drop + Send + 'static, T: Texts, O: Write>(
+/// Reads and checks the recipe and then the script of these names, starts the recipe's plan, runs
+/// the script's calls in one session, and writes the answer of each. A refused call is a line too,
+/// and the script goes on. Where the output cannot be written, no further call is made. All threads
+/// that it starts have ended.
+pub fn run_files<R: Threads + Wait + Copy + Drop + Send + 'static, T: Texts, O: Write>(
     rt: R,
     alloc: Global,
+    recipe: &str,
     script: &str,
     texts: &mut T,
     out: &mut O,
 ) -> Result<(), Fault> {
-    let text = texts.text(script)?;
-    let calls = read_script(alloc, text.as_slice())?;
-    let plan = Plan::built_in(alloc)?;
+    let plan = plan_named(alloc, recipe, texts)?;
+    let calls = calls_named(alloc, script, texts)?;
     let opened = Opened::new(alloc, &plan, 1)?;
     run_calls::<Brand, R, O>(rt, alloc, opened, plan, calls, out)
 }
 
+// The plan of the recipe of this name.
+fn plan_named<T: Texts>(alloc: Global, recipe: &str, texts: &mut T) -> Result<Plan, Fault> {
+    let text = texts.text(recipe)?;
+    Ok(from_bytes(alloc, text.as_slice())?)
+}
+
+// The calls of the script of this name.
+fn calls_named<T: Texts>(alloc: Global, script: &str, texts: &mut T) -> Result<Vec<Call>, Fault> {
+    let text = texts.text(script)?;
+    Ok(read_script(alloc, text.as_slice())?)
+}
+
 // Starts the system, and runs the calls in its one session.
-fn run_calls<J: Naming + 'static, R: Threads + Wait + Copy + Drop + Send + 'static, O: Write>(
+fn run_calls<
+    J: Naming + Send + Sync + 'static,
+    R: Threads + Wait + Copy + Drop + Send + 'static,
+    O: Write,
+>(
     rt: R,
     alloc: Global,
     opened: Opened,
@@ -94,6 +114,17 @@ fn answer_call<J: Naming, R: Wait, O: Write>(
             Ok(()) => writeln!(out, "fenced"),
             Err(refused) => writeln!(out, "{}", Fault::Refused(refused)),
         },
+        Command::Try { view, key } => match try_read(alloc, session, view.as_str(), key) {
+            Ok(Found::Hit(answer)) => write_rows(&answer, out),
+            Ok(Found::Miss) => writeln!(out, "miss"),
+            Err(refused) => writeln!(out, "{}", Fault::Refused(refused)),
+        },
+        Command::Read { view, key } | Command::Closing { view, key } => {
+            match read(alloc, session, view.as_str(), key) {
+                Ok(answer) => write_rows(&answer, out),
+                Err(refused) => writeln!(out, "{}", Fault::Refused(refused)),
+            }
+        }
     };
     written.map_err(|_| Fault::Refused(Refused::CannotWrite))
 }

@@ -1,4 +1,7 @@
 //! The program, called with texts and outputs of memory.
+mod reads;
+mod recipes;
+
 use crate::command::{USAGE, command};
 use crate::texts::Texts;
 use row::refused::Refused;
@@ -8,19 +11,21 @@ use std::sync::Wait;
 use std::test::Fail;
 use std::thread::Threads;
 
-/// One script, under the name `script`.
+/// A recipe and a script, under the names `recipe` and `script`.
 #[derive(Drop)]
-struct OneText<'t> {
+struct TwoTexts<'t> {
     alloc: Global,
-    bytes: &'t [u8],
+    recipe: &'t [u8],
+    script: &'t [u8],
 }
 
-impl Texts for OneText<'_> {
+impl Texts for TwoTexts<'_> {
     fn text(&mut self, name: &str) -> Result<Vec<u8>, Refused> {
-        if name != "script" {
-            return Err(Refused::CannotRead);
+        match name {
+            "recipe" => Ok(Vec::from_slice(self.alloc, self.recipe)?),
+            "script" => Ok(Vec::from_slice(self.alloc, self.script)?),
+            _ => Err(Refused::CannotRead),
         }
-        Ok(Vec::from_slice(self.alloc, self.bytes)?)
     }
 }
 
@@ -43,13 +48,15 @@ fn words_of(alloc: Global, words: &[&str]) -> Result<Vec<String>, AllocError> {
 fn run_words<R: Threads + Wait + AllocGlobal + Copy + Drop + Send + 'static>(
     rt: R,
     words: &[&str],
+    recipe: &[u8],
     script: &[u8],
 ) -> Result<Ran, AllocError> {
     let alloc = rt.alloc();
     let words = words_of(alloc, words)?;
-    let mut texts = OneText {
+    let mut texts = TwoTexts {
         alloc,
-        bytes: script,
+        recipe,
+        script,
     };
     let mut out = Vec::with_capacity(alloc, 4096)?;
     let mut err = Vec::with_capacity(alloc, 256)?;
@@ -57,30 +64,62 @@ fn run_words<R: Threads + Wait + AllocGlobal + Copy + Drop + Send + 'static>(
     Ok(Ran { status, out, err })
 }
 
-// A run that met no want of memory.
+// A run that met no want of memory, for which a call is refused or a thread stops.
 fn run_whole<R: Threads + Wait + AllocGlobal + Copy + Drop + Send + 'static>(
     rt: R,
     words: &[&str],
+    recipe: &[u8],
     script: &[u8],
 ) -> Result<Ran, AllocError> {
-    let ran = run_words(rt, words, script)?;
-    let met = |line: &[u8]| line == b"refused 1 NoMemory".as_slice();
-    if ran.out.split(is_line_feed).any(met) || ran.err.split(is_line_feed).any(met) {
+    let ran = run_words(rt, words, recipe, script)?;
+    if ran.out.split(is_line_feed).any(is_want) || ran.err.split(is_line_feed).any(is_want) {
         return Err(AllocError);
     }
     Ok(ran)
+}
+
+fn is_want(line: &[u8]) -> bool {
+    line == b"refused 1 NoMemory".as_slice() || line == b"refused 10 Stopped".as_slice()
 }
 
 fn is_line_feed(byte: &u8) -> bool {
     *byte == b'\n'
 }
 
+// The script, run over the recipe of notes.
 fn run<R: Threads + Wait + AllocGlobal + Copy + Drop + Send + 'static>(
     rt: R,
     script: &[u8],
 ) -> Result<Ran, AllocError> {
-    run_whole(rt, &["run", "built-in", "script"], script)
+    run_recipe(rt, NOTES.as_bytes(), script)
 }
+
+fn run_recipe<R: Threads + Wait + AllocGlobal + Copy + Drop + Send + 'static>(
+    rt: R,
+    recipe: &[u8],
+    script: &[u8],
+) -> Result<Ran, AllocError> {
+    run_whole(rt, &["run", "recipe", "script"], recipe, script)
+}
+
+const NOTES: &str = r#"
+[[table]]
+name = "notes"
+shards = 1
+key = "id"
+columns = ["id int", "author int", "body text"]
+
+[stage]
+shards = 1
+left = "notes"
+left_key = "id"
+
+[[view]]
+name = "by_author"
+key = "author"
+shards = 1
+cap = 4
+"#;
 
 const WORKED: &[u8] = b"insert notes 1 7 a
 insert notes 1 8 b
@@ -128,22 +167,26 @@ accepted notes.0 1
 
 #[test]
 fn other_words_print_the_usage(rt: HostRuntime) -> Result<(), Fail> {
-    let others: [&[&str]; 6] = [
+    let others: [&[&str]; 9] = [
         &[],
         &["run"],
-        &["run", "built-in"],
-        &["run", "notes.toml", "script"],
-        &["race", "built-in", "script"],
-        &["run", "built-in", "script", "script"],
+        &["run", "recipe"],
+        &["run", "recipe", "script", "script"],
+        &["Run", "recipe", "script"],
+        &["recipe", "script", "run"],
+        &["race", "recipe", "script"],
+        &["race", "recipe", "script", "script"],
+        &["replay", "recipe", "script"],
     ];
+    let wanted =
+        b"usage: noria run RECIPE SCRIPT | noria race RECIPE SCRIPT.. | noria replay RECIPE SCHEDULE\n";
     for words in others {
-        let ran = run_whole(rt, words, WORKED)?;
+        let ran = run_whole(rt, words, NOTES.as_bytes(), WORKED)?;
         assert_eq!(rt; ran.status, 2);
         assert_eq!(rt; ran.out.as_slice(), b"".as_slice());
-        let wanted = b"usage: noria run built-in SCRIPT\n";
         assert_eq!(rt; ran.err.as_slice(), wanted.as_slice());
     }
-    assert_eq!(rt; USAGE, "usage: noria run built-in SCRIPT");
+    assert_eq!(rt; USAGE.len() + 1, wanted.len());
     Ok(())
 }
 
@@ -158,7 +201,7 @@ fn an_empty_script_prints_nothing(rt: HostRuntime) -> Result<(), Fail> {
 
 #[test]
 fn a_bad_line_refuses_the_script(rt: HostRuntime) -> Result<(), Fail> {
-    let scripts: [(&[u8], &[u8]); 7] = [
+    let scripts: [(&[u8], &[u8]); 11] = [
         (b"jump", b"refused 30 BadScript line 1\n"),
         (
             b"# a\n\ninsert notes 1 7 a\ninsert notes 1 7 \"a\n",
@@ -174,6 +217,13 @@ fn a_bad_line_refuses_the_script(rt: HostRuntime) -> Result<(), Fail> {
         ),
         (b"insert notes\n", b"refused 30 BadScript line 1\n"),
         (b"fence\nfence notes\n", b"refused 30 BadScript line 2\n"),
+        (b"fence\nread by_author\n", b"refused 30 BadScript line 2\n"),
+        (
+            b"try by_author 7\nread by_author 7 8\n",
+            b"refused 30 BadScript line 2\n",
+        ),
+        (b"closing\n", b"refused 30 BadScript line 1\n"),
+        (b"delete notes 1\n", b"refused 30 BadScript line 1\n"),
         (b"insert notes 1 7 a\r\n", b"refused 30 BadScript line 1\n"),
     ];
     for (script, wanted) in scripts {
@@ -186,11 +236,19 @@ fn a_bad_line_refuses_the_script(rt: HostRuntime) -> Result<(), Fail> {
 }
 
 #[test]
-fn a_script_that_is_not_there(rt: HostRuntime) -> Result<(), Fail> {
-    let ran = run_whole(rt, &["run", "built-in", "nowhere"], WORKED)?;
-    assert_eq!(rt; ran.status, 1);
-    assert_eq!(rt; ran.out.as_slice(), b"".as_slice());
-    assert_eq!(rt; ran.err.as_slice(), b"refused 31 CannotRead\n".as_slice());
+fn files_that_are_not_there(rt: HostRuntime) -> Result<(), Fail> {
+    let others: [&[&str]; 4] = [
+        &["run", "recipe", "nowhere"],
+        &["run", "nowhere", "script"],
+        &["run", "nowhere", "nowhere"],
+        &["run", "built-in", "script"],
+    ];
+    for words in others {
+        let ran = run_whole(rt, words, NOTES.as_bytes(), WORKED)?;
+        assert_eq!(rt; ran.status, 1);
+        assert_eq!(rt; ran.out.as_slice(), b"".as_slice());
+        assert_eq!(rt; ran.err.as_slice(), b"refused 31 CannotRead\n".as_slice());
+    }
     Ok(())
 }
 
@@ -264,16 +322,17 @@ impl io::Write for Failing {
 
 #[test]
 fn an_output_that_fails(rt: HostRuntime) -> Result<(), Fail> {
-    let words = words_of(rt.alloc(), &["run", "built-in", "script"])?;
+    let words = words_of(rt.alloc(), &["run", "recipe", "script"])?;
     // Two buffers of output, and then the rest as the run ends.
     let mut script = Vec::new(rt.alloc());
     for _ in 0..900 {
         script.extend_from_slice(b"insert a 1\n")?;
     }
     for (writes, wanted) in [(0, 1), (1, 1), (2, 1), (3, 0)] {
-        let mut texts = OneText {
+        let mut texts = TwoTexts {
             alloc: rt.alloc(),
-            bytes: script.as_slice(),
+            recipe: NOTES.as_bytes(),
+            script: script.as_slice(),
         };
         let mut err = Vec::with_capacity(rt.alloc(), 256)?;
         let mut out = Failing { writes };
@@ -301,10 +360,11 @@ fn an_output_that_fails(rt: HostRuntime) -> Result<(), Fail> {
 
 #[test]
 fn an_error_output_that_fails_leaves_the_status(rt: HostRuntime) -> Result<(), Fail> {
-    let words = words_of(rt.alloc(), &["run", "built-in", "nowhere"])?;
-    let mut texts = OneText {
+    let words = words_of(rt.alloc(), &["run", "recipe", "nowhere"])?;
+    let mut texts = TwoTexts {
         alloc: rt.alloc(),
-        bytes: WORKED,
+        recipe: NOTES.as_bytes(),
+        script: WORKED,
     };
     let mut out = Failing { writes: 0 };
     let mut err = Failing { writes: 0 };
@@ -327,7 +387,8 @@ fn an_error_output_that_fails_leaves_the_status(rt: HostRuntime) -> Result<(), F
 // accepted again.
 #[test]
 fn accepted_lines_stand_where_memory_is_refused(rt: HostRuntime) {
-    let Ok(ran) = run_words(rt, &["run", "built-in", "script"], WORKED) else {
+    let words = ["run", "recipe", "script"];
+    let Ok(ran) = run_words(rt, &words, NOTES.as_bytes(), WORKED) else {
         return;
     };
     assert!(rt; ran.status < 2);

@@ -1,4 +1,4 @@
-use Rattle.noria.proofs.runner.run_script.Given as goal
+use Rattle.noria.proofs.runner.run_files.Given as goal
 
 -- the book that was just opened
 abbrev pub ghosts-run_calls : goal.ghosts-run_calls
