@@ -13,7 +13,7 @@ use Rattle.book.specs.Histories.{Item, write, Author, entry_in, log_of, author_i
 use Rattle.book.specs.Words.{count_at}
 use Rattle.book.specs.Legal.{AllowsWrite, limit}
 use Rattle.book.specs.Pages.{Page, history_of, IsAdded}
-use Rattle.book.specs.Fronts.{FrontView, entries, authors, IsFront, IsAppended, IsMoved, IsAgreed}
+use Rattle.book.specs.Fronts.{FrontView, entries, authors, IsFront, IsAppended, IsMoved}
 use Rattle.book.proofs.Parts.{length_log, flat_later, entry_blind, author_blind, IsBlind}
 use Rattle.book.proofs.Steps.{rest_of}
 
@@ -114,16 +114,3 @@ may_write p v b len s m e f fit here law room number is =
 
 pub front_count : (p : Layout) (v : List Page) (b len : ℕ) → IsFront p (front_at b len v) → len ≤ count_at p b (history_of v)
 front_count p v b len f = omega (arith, f.len, length_log p b f.base (history_of v))
-
--- two fronts of one shard, once all that both have seen was seen
-pub agreed : (p : Layout) (v o w : List Page) (b len num : ℕ) → IsFront p (front_at b len v) → IsFront p (front_at b num o) → IsPrefix v w → IsPrefix o w → IsAgreed (front_at b len w) (front_at b num o)
-agreed p v o w b len num f g fw gw =
-    let e : take num (log_of b (history_of w)) ≡ take num (log_of b (history_of o)) = entries_later p o w b num g gw in
-    record {
-      left = λ le. sym (take-take len num (log_of b (history_of w)) le) ∙ ap (take len) e;
-      right = λ le. sym e ∙ sym (take-take num len (log_of b (history_of w)) le);
-    }
-
--- two that agree and are as long have the same entries
-pub agreed_same : (f g : FrontView) → IsAgreed f g → f.len ≡ g.len → entries f ≡ entries g
-agreed_same f g a e = a.left (omega arith) ∙ (ap (λ n. take n (entries g)) e ∙ take-take g.len g.len (log_of g.base g.seen) (omega arith))

@@ -44,8 +44,3 @@ pub record IsMoved (f g : FrontView) : Type 0 where
   pub len : g.len ≡ f.len
   pub grown : IsPrefix f.seen g.seen
   pub longer : g.len < length (log_of g.base g.seen)
-
--- of two fronts of one shard the shorter begins the longer
-pub record IsAgreed (f g : FrontView) : Type 0 where
-  pub left : f.len ≤ g.len → entries f ≡ take f.len (entries g)
-  pub right : g.len ≤ f.len → entries g ≡ take g.len (entries f)

@@ -1,11 +1,13 @@
 //! A book whose history stands in words that all threads share.
-ghost use Rattle.std.specs.Prelude.{◌≡◌, ◌+◌, ◌<◌, ◌≤◌, [], IfOk, slice_index_or};
+ghost use Rattle.std.specs.Prelude.{◌≡◌, ◌+◌, ◌<◌, ◌≤◌, [], IfOk, map, slice_index_or};
+ghost use Rattle.crossbeam_utils.specs.Padded.{padded_value};
 ghost use Rattle.book.specs.Pages.{words_of, word_named};
 ghost use Rattle.book.specs.Places.{base_count};
 
 use crate::front::Front;
 use crate::law::{Law, LogPage, Naming};
 use crate::places::base_count;
+use crossbeam_utils::CachePadded;
 use logbook::{Opening, Pens, Seen, Start, Word};
 use plan::plan::Plan;
 use std::alloc::{AllocError, Global};
@@ -25,14 +27,15 @@ impl Opening<Plan, LogPage> for First {
 /// A book with no item, which has no name yet.
 #[derive(Drop)]
 pub struct Opened {
-    words: Vec<Word<LogPage, u64, Law>>,
+    words: Vec<CachePadded<Word<LogPage, u64, Law>>>,
     bases: usize,
     sessions: usize,
     seen: Seen<LogPage, u64, Law>,
 }
 
 impl Model for Opened {
-    ghost use Rattle.std.specs.Prelude.{◌≡◌, ◌+◌, ◌<◌, [], ◌∷◌};
+    ghost use Rattle.std.specs.Prelude.{◌≡◌, ◌+◌, ◌<◌, [], ◌∷◌, map};
+    ghost use Rattle.crossbeam_utils.specs.Padded.{padded_value};
     ghost use Rattle.book.specs.Pages.{Opened as OpenedView, opens, plan_on, words_of};
     ghost use Rattle.book.specs.Places.{base_count};
 
@@ -40,20 +43,22 @@ impl Model for Opened {
 
     ghost view = { λ o. record { book = o.seen.book; plan = plan_on o.seen.log; sessions = o.sessions } };
 
-    ghost invariant = { λ o. (o.words.items ≡ words_of o.seen.book (o.bases + o.sessions)) × (o.bases ≡ base_count (plan_on o.seen.log)) × (o.bases + o.sessions < 100) × (o.seen.log ≡ opens (plan_on o.seen.log) o.sessions ∷ []) };
+    ghost invariant = { λ o. (map padded_value o.words.items ≡ words_of o.seen.book (o.bases + o.sessions)) × (o.bases ≡ base_count (plan_on o.seen.log)) × (o.bases + o.sessions < 100) × (o.seen.log ≡ opens (plan_on o.seen.log) o.sessions ∷ []) };
 }
 
-/// The words that all threads share: one for each base shard, then one for each session.
+/// The words that all threads share: one for each base shard, then one for each session. Each has
+/// its lines of the cache to itself, so that sessions do not slow each other.
 #[derive(Drop)]
 pub struct Book<J: Naming> {
-    words: Vec<Word<LogPage, u64, Law>>,
+    words: Vec<CachePadded<Word<LogPage, u64, Law>>>,
     bases: usize,
     sessions: usize,
     of: PhantomData<J>,
 }
 
 impl<J: Naming> Model for Book<J> {
-    ghost use Rattle.std.specs.Prelude.{◌≡◌, ◌+◌, ◌<◌, ℕ};
+    ghost use Rattle.std.specs.Prelude.{◌≡◌, ◌+◌, ◌<◌, ℕ, map};
+    ghost use Rattle.crossbeam_utils.specs.Padded.{padded_value};
     ghost use Rattle.book.specs.Pages.{words_of};
     ghost use Rattle.book.specs.Places.{base_count};
 
@@ -61,7 +66,7 @@ impl<J: Naming> Model for Book<J> {
 
     ghost view = { λ b. b.bases + b.sessions };
 
-    ghost invariant = { λ b. (b.words.items ≡ words_of J.book (b.bases + b.sessions)) × (b.bases ≡ base_count J.plan) × (b.bases + b.sessions < 100) × (b.sessions ≡ J.sessions) };
+    ghost invariant = { λ b. (map padded_value b.words.items ≡ words_of J.book (b.bases + b.sessions)) × (b.bases ≡ base_count J.plan) × (b.bases + b.sessions < 100) × (b.sessions ≡ J.sessions) };
 }
 
 impl Opened {
@@ -112,15 +117,15 @@ fn words(
     alloc: Global,
     pens: &mut Pens,
     count: usize,
-) -> Result<Vec<Word<LogPage, u64, Law>>, AllocError>
+) -> Result<Vec<CachePadded<Word<LogPage, u64, Law>>>, AllocError>
     requires next { pens.old.next ≡ 0 }
     requires left { pens.old.left ≡ count }
-    ensures { IfOk result (λ v. v.items ≡ words_of pens.old.book count) }
+    ensures { IfOk result (λ v. map padded_value v.items ≡ words_of pens.old.book count) }
 {
     let mut words = Vec::new(alloc);
     for _key in 0..count {
         let mut pen = pens.take();
-        words.push(Word::tracked(0, &mut pen))?;
+        words.push(CachePadded::new(Word::tracked(0, &mut pen)))?;
     }
     Ok(words)
 }

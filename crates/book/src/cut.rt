@@ -225,13 +225,6 @@ impl<J: Naming> Cut<J> {
         &self.lengths
     }
 
-    /// Its lengths, without the history.
-    pub fn into_lengths(self) -> Lengths
-        ensures lengths { result ≡ self.lengths }
-    {
-        self.lengths
-    }
-
     /// A copy. Refused for want of memory alone.
     pub fn again(&self, alloc: Global) -> Result<Cut<J>, AllocError>
         ensures { IfOk result (λ c. c ≡ self.now) }

@@ -4,7 +4,7 @@ ghost use mathlib.Core.List.{IsPrefix};
 ghost use Rattle.row.specs.Bags.{Each};
 ghost use Rattle.row.specs.Cells.{shard};
 ghost use Rattle.book.specs.Entries.{change_of};
-ghost use Rattle.book.specs.Fronts.{FrontView, entries, authors, IsAppended, IsMoved, IsAgreed};
+ghost use Rattle.book.specs.Fronts.{FrontView, entries, authors, IsAppended, IsMoved};
 ghost use Rattle.book.specs.Histories.{Author, log_of};
 ghost use Rattle.book.specs.Legal.{limit, IsLegal};
 ghost use Rattle.book.specs.Logs.{fits, key_of, lawful};
@@ -139,19 +139,8 @@ impl<J: Naming> Front<J> {
         look_at(book, self.base, &mut self.seen)
     }
 
-    /// Sees what the other front has seen, too. Afterwards two fronts of one shard are known to agree.
-    pub fn meet(&mut self, other: &Front<J>)
-        ensures base { self.new.base ≡ self.old.base }
-        ensures len { self.new.len ≡ self.old.len }
-        ensures entries { entries self.new ≡ entries self.old }
-        ensures seen { IsPrefix self.old.seen self.new.seen }
-        ensures others { IsPrefix other.now.seen self.new.seen }
-        ensures agreed { self.old.base ≡ other.now.base → IsAgreed self.new other.now }
-    {
-        learn::<J>(&mut self.seen, &other.seen);
-    }
-
-    /// Adds an entry at the end of the log, and says whether it did. It did not where the log has moved.
+    /// Adds an entry at the end of the log, and says whether it did. It did not where the log has
+    /// moved.
     pub fn append(&mut self, book: &Book<J>, session: u64, number: u64, entry: &Entry) -> bool
         requires fits { fits (layout_of J.plan self.old.base) (change_of entry.now) ≡ true }
         requires shard { shard_of J.plan self.old.base ≡ shard (key_of (layout_of J.plan self.old.base).key (change_of entry.now)) (layout_of J.plan self.old.base).shards }

@@ -133,21 +133,8 @@ impl<J: Naming> SessionWord<J> {
         self.number
     }
 
-    /// Of what the two have seen one begins the other. Afterwards both have seen the same, which is no less than either had.
-    pub fn meet(&mut self, other: &mut SessionWord<J>)
-        ensures one { IsPrefix self.old.seen other.old.seen ⊎ IsPrefix other.old.seen self.old.seen }
-        ensures both { self.new.seen ≡ other.new.seen }
-        ensures this { IsPrefix self.old.seen self.new.seen }
-        ensures that { IsPrefix other.old.seen other.new.seen }
-        ensures floors { (self.new.floors ≡ self.old.floors) × (other.new.floors ≡ other.old.floors) }
-        ensures answered { (self.new.answered ≡ self.old.answered) × (other.new.answered ≡ other.old.answered) }
-        ensures sessions { (self.new.session ≡ self.old.session) × (other.new.session ≡ other.old.session) }
-    {
-        learn::<J>(&mut self.seen, &other.seen);
-        other.seen = self.seen.again();
-    }
-
-    /// Answers a read over a cut, and says whether it did. It did not where the session's word has moved.
+    /// Answers a read over a cut, and says whether it did. It did not where the session's word has
+    /// moved.
     pub fn answer(
         &mut self,
         book: &Book<J>,
@@ -192,7 +179,8 @@ impl<J: Naming> SessionWord<J> {
         }
     }
 
-    /// Ends a fence with a cut for each shard of each view, and says whether it did. It did not where the session's word has moved.
+    /// Ends a fence with a cut for each shard of each view, and says whether it did. It did not where
+    /// the session's word has moved.
     pub fn fence(&mut self, book: &Book<J>, own: &Vec<Place>, cuts: Cuts<J>) -> bool
         requires floors { EachShard J.plan (λ v j. IsAtMost (floor_at self.old.floors v j) (floor_at cuts.floors v j)) }
         requires past { EachShard J.plan (λ v j. Each (IsPast J.plan (floor_at cuts.floors v j)) (places_of own.now.items)) }
