@@ -84,20 +84,6 @@ impl<J: Naming> ShownReader<J> {
         ShownReader::over(reader, self.view, self.shard)
     }
 
-    /// The view whose rows it reads.
-    pub fn view(&self) -> usize
-        ensures { result ≡ self.now.view }
-    {
-        self.view
-    }
-
-    /// The shard of the view whose rows it reads.
-    pub fn shard(&self) -> usize
-        ensures { result ≡ self.now.shard }
-    {
-        self.shard
-    }
-
     /// Looks a key of its shard up in what is shown, which is no less than what it has seen. It
     /// waits for nobody. Refused with `NoMemory` for want of memory, or where the writer is gone;
     /// it may then have seen more. Cost: one look-up, and copies of the rows and of the cut.
@@ -192,7 +178,7 @@ fn found<J: Naming>(alloc: Global, shown: &Shown<J>, key: &Value) -> Result<Look
 fn copies(alloc: Global, rows: &[Row]) -> Result<Vec<Row>, AllocError>
     ensures { IfOk result (λ v. v.items ≡ rows.now) }
 {
-    let mut copies = Vec::new(alloc);
+    let mut copies = Vec::with_capacity(alloc, rows.len())?;
     for row in rows {
         copies.push(row.copied(alloc)?)?;
     }

@@ -247,7 +247,6 @@ fn looks_at_one_note<J: Naming, R: Wait + Abort + Copy + Drop>(
         )
     );
     let mut another = reader.another()?;
-    assert!(rt; another.view() == 0 && another.shard() == 0);
     assert!(rt;
         is_seen(
             &seen(&mut another, alloc, &author).map_err(fail)?,
