@@ -36,6 +36,16 @@ pub enum ToView<J: Naming> {
     Marker(Marker),
 }
 
+impl<J: Naming> ToView<J> {
+    /// The marker, if it is one.
+    pub fn marker(&self) -> Option<Marker> {
+        match self {
+            ToView::Packet(_) => None,
+            ToView::Marker(marker) => Some(*marker),
+        }
+    }
+}
+
 /// What a marker ends with: whether all that it came to were running.
 #[derive(Clone, Copy)]
 pub struct Ack {

@@ -1,17 +1,18 @@
 //! The thread of a base shard.
-ghost use Rattle.std.specs.Prelude.{◌≡◌, ◌≢◌, ◌⊎◌, ◌<◌, ◌≤◌, true, false, length, slice_index_or, IfSome, IsSomeAnd, IfNone, IfOk, IfErr, None, IsTrue, IsFalse};
+ghost use Rattle.std.specs.Prelude.{◌≡◌, ◌≢◌, ◌⊎◌, ◌<◌, ◌≤◌, true, false, length, slice_index_or, IfSome, IsSomeAnd, IfNone, IfOk, IfErr, None, Some, IsTrue, IsFalse};
 ghost use Rattle.domain.specs.Bases.{Declines, Sends, Takes};
+ghost use Rattle.system.specs.Messages.{IsMarker, IsPacket, OnBaseMarker, OnWrite};
 
 use crate::shared::{Ack, Shared, ToBase, ToView};
 use book::book::Book;
 use book::law::Naming;
 use domain::base_domain::{BaseDomain, Outcome};
 use domain::message::{Reply, Write};
-use domain::packet::BasePacket;
 use std::alloc::Global;
 use std::sync::Wait;
 
-/// Takes one message after the other, and answers each, until the queue is closed and empty.
+/// Takes one message after the other, and sends what it makes of each, until the queue is closed
+/// and empty.
 pub fn base_work<J: Naming, R: Wait>(
     rt: &R,
     alloc: Global,
@@ -23,31 +24,20 @@ pub fn base_work<J: Naming, R: Wait>(
         let Some(message) = shared.next(rt, base) else {
             break;
         };
-        match message {
-            ToBase::Write(write) => {
-                let answer = answer_of(alloc, shared.book(), &mut domain, write);
-                if let Some(
-                    Answer {
-                        session,
-                        reply,
-                        packet,
-                    },
-                ) = answer
-                {
-                    if let Some(packet) = packet {
-                        pass_on(rt, shared, &mut domain, ToView::Packet(packet));
-                    }
-                    shared.reply(rt, session, reply);
-                }
+        let Step { onward, reply, ack } = take(alloc, shared.book(), &mut domain, message);
+        if let Some(message) = onward {
+            let marker = message.marker();
+            let sent = pass_on(rt, shared, &mut domain, message);
+            if let (false, Some(marker)) = (sent, marker) {
+                let running = false;
+                shared.acknowledge(rt, Ack { marker, running });
             }
-            ToBase::Marker(marker) => {
-                if domain.is_stopped()
-                    || !pass_on(rt, shared, &mut domain, ToView::Marker(marker))
-                {
-                    let running = false;
-                    shared.acknowledge(rt, Ack { marker, running });
-                }
-            }
+        }
+        if let Some((session, reply)) = reply {
+            shared.reply(rt, session, reply);
+        }
+        if let Some(ack) = ack {
+            shared.acknowledge(rt, ack);
         }
     }
 }
@@ -70,40 +60,79 @@ fn pass_on<J: Naming, R: Wait>(
     sent
 }
 
-/// A reply, the session that waits for it, and the packet of an accepted entry.
+/// What a message makes: a message to the view's shard, then a reply to a session, and an
+/// acknowledgement.
 #[derive(Drop)]
-struct Answer<J: Naming> {
-    session: usize,
-    reply: Reply<J>,
-    packet: Option<BasePacket<J>>,
+struct Step<J: Naming> {
+    onward: Option<ToView<J>>,
+    reply: Option<(usize, Reply<J>)>,
+    ack: Option<Ack>,
 }
 
-// Takes a write: its session, the reply, and the packet. None where the write is of another base shard, or its
-// number is not above all of its session in the log.
-fn answer_of<J: Naming>(
+// Takes one message. A write is answered, and the packet of an accepted entry goes on; it is
+// ignored where it is of another base shard, or its number is not above all of its session in the
+// log. A marker goes on, or is acknowledged where the domain has stopped.
+fn take<J: Naming>(
+    alloc: Global,
+    book: &Book<J>,
+    domain: &mut BaseDomain<J>,
+    message: ToBase<J>,
+) -> Step<J>
+    ensures accepted { OnWrite (λ w. IfSome result.reply (λ r. (r.0 ≡ w.session) × IfOk r.1 (λ x. Takes J.plan domain.old w x domain.new))) message }
+    ensures sent { OnWrite (λ w. IfSome result.reply (λ r. IfOk r.1 (λ x. IsSomeAnd result.onward (IsPacket (λ k. Sends J.plan domain.old.front w.entry k domain.new.front))))) message }
+    ensures declined { OnWrite (λ w. IfSome result.reply (λ r. IfErr r.1 (λ d. Declines J.plan domain.old w d domain.new × (result.onward ≡ None)))) message }
+    ensures ignored { OnWrite (λ w. IfNone result.reply ((domain.new ≡ domain.old) × (result.onward ≡ None))) message }
+    ensures late { OnWrite (λ w. IfNone result.reply ((w.base ≢ domain.old.front.base) ⊎ (length domain.old.next ≤ w.session) ⊎ (w.number < slice_index_or domain.old.next w.session 0))) message }
+    ensures unacknowledged { OnWrite (λ w. result.ack ≡ None) message }
+    ensures rests { OnBaseMarker (λ m. (domain.new ≡ domain.old) × (result.reply ≡ None)) message }
+    ensures onward { OnBaseMarker (λ m. domain.old.stopped ≡ false → IsSomeAnd result.onward (IsMarker (λ n. n ≡ m)) × (result.ack ≡ None)) message }
+    ensures stopped { OnBaseMarker (λ m. domain.old.stopped ≡ true → (result.onward ≡ None) × (result.ack ≡ Some (record { marker = m; running = false }))) message }
+{
+    match message {
+        ToBase::Write(write) => take_write(alloc, book, domain, write),
+        ToBase::Marker(marker) if domain.is_stopped() => Step {
+            onward: None,
+            reply: None,
+            ack: Some(Ack {
+                marker,
+                running: false,
+            }),
+        },
+        ToBase::Marker(marker) => Step {
+            onward: Some(ToView::Marker(marker)),
+            reply: None,
+            ack: None,
+        },
+    }
+}
+
+fn take_write<J: Naming>(
     alloc: Global,
     book: &Book<J>,
     domain: &mut BaseDomain<J>,
     write: Write<J>,
-) -> Option<Answer<J>>
-    ensures session { IfSome result (λ a. a.session ≡ write.session) }
-    ensures accepted { IfSome result (λ a. IfOk a.reply (λ w. Takes J.plan domain.old write w domain.new)) }
-    ensures declined { IfSome result (λ a. IfErr a.reply (λ d. Declines J.plan domain.old write d domain.new)) }
-    ensures sent { IfSome result (λ a. IfOk a.reply (λ w. IsSomeAnd a.packet (λ k. Sends J.plan domain.old.front write.entry k domain.new.front))) }
-    ensures unsent { IfSome result (λ a. IfErr a.reply (λ d. a.packet ≡ None)) }
-    ensures ignored { IfNone result (domain.new ≡ domain.old) }
-    ensures late { IfNone result ((write.base ≢ domain.old.front.base) ⊎ (length domain.old.next ≤ write.session) ⊎ (write.number < slice_index_or domain.old.next write.session 0)) }
+) -> Step<J>
+    ensures session { IfSome result.reply (λ r. r.0 ≡ write.session) }
+    ensures accepted { IfSome result.reply (λ r. IfOk r.1 (λ w. Takes J.plan domain.old write w domain.new)) }
+    ensures sent { IfSome result.reply (λ r. IfOk r.1 (λ w. IsSomeAnd result.onward (IsPacket (λ k. Sends J.plan domain.old.front write.entry k domain.new.front)))) }
+    ensures declined { IfSome result.reply (λ r. IfErr r.1 (λ d. Declines J.plan domain.old write d domain.new × (result.onward ≡ None))) }
+    ensures ignored { IfNone result.reply ((domain.new ≡ domain.old) × (result.onward ≡ None)) }
+    ensures late { IfNone result.reply ((write.base ≢ domain.old.front.base) ⊎ (length domain.old.next ≤ write.session) ⊎ (write.number < slice_index_or domain.old.next write.session 0)) }
+    ensures unacknowledged { result.ack ≡ None }
 {
-    if write.base() != domain.base() {
-        return None;
+    let (mut onward, mut reply) = (None, None);
+    if write.base() == domain.base() {
+        let session = write.session();
+        if let Some(outcome) = domain.receive(alloc, book, write) {
+            reply = Some((session, outcome.reply));
+            if let Some(packet) = outcome.packet {
+                onward = Some(ToView::Packet(packet));
+            }
+        }
     }
-    let session = write.session();
-    match domain.receive(alloc, book, write) {
-        Some(Outcome { reply, packet }) => Some(Answer {
-            session,
-            reply,
-            packet,
-        }),
-        None => None,
+    Step {
+        onward,
+        reply,
+        ack: None,
     }
 }
