@@ -1,13 +1,15 @@
 // Loaded before a program, refuses its Nth allocation, where N is REFUSE_ALLOCATION. Where the
-// program ends with fewer, it writes the file REFUSE_UNMET.
+// program ends with fewer, also by _exit, it writes the file REFUSE_UNMET.
 #define _GNU_SOURCE
 #include <dlfcn.h>
 #include <errno.h>
 #include <fcntl.h>
+#include <stdatomic.h>
 #include <stdlib.h>
+#include <sys/syscall.h>
 #include <unistd.h>
 
-static long left;
+static atomic_long left;
 
 __attribute__((constructor)) static void begin(void) {
     const char *text = getenv("REFUSE_ALLOCATION");
@@ -20,8 +22,15 @@ __attribute__((destructor)) static void end(void) {
         close(open(file, O_CREAT | O_WRONLY, 0600));
 }
 
+void _exit(int status) {
+    end();
+    syscall(SYS_exit_group, status);
+    __builtin_unreachable();
+}
+
+// Of threads at once, each counts its own.
 static int is_refused(void) {
-    return left > 0 && --left == 0;
+    return left > 0 && atomic_fetch_sub(&left, 1) == 1;
 }
 
 #define NEXT(name) ((__typeof__(name) *)dlsym(RTLD_NEXT, #name))
