@@ -1,4 +1,5 @@
-//! The running store: a thread for each base shard, and sessions that its callers hold.
+//! The running store: a thread for each base shard and one for the shown answers of the view, and
+//! sessions that its callers hold.
 #![tactic(auto)]
 
 mod call;
@@ -11,6 +12,8 @@ mod shared;
 pub mod system;
 #[cfg(test)]
 mod tests;
+#[cfg(test)]
+mod tests_of_hits;
 #[cfg(test)]
 mod tests_of_pace;
 #[cfg(test)]

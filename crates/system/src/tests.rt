@@ -184,8 +184,11 @@ fn calls_of_two<
     let accepted = first.insert(&rt, alloc, "notes", note(alloc, 1, 7)?);
     assert!(rt; accepted.map_err(fail)?.index == 0);
     first.meet(&mut second);
-    let refused = second.insert(&rt, alloc, "notes", note(alloc, 1, 8)?);
-    assert_eq!(rt; refused, Err(Refused::Duplicate));
+    match second.insert(&rt, alloc, "notes", note(alloc, 1, 8)?) {
+        Err(Refused::Duplicate) => {}
+        Err(refused) => return Err(fail(refused)),
+        Ok(_) => return Err(Fail::from("a key twice")),
+    }
     second.fence(&rt, alloc).map_err(fail)?;
     let accepted = second.insert(&rt, alloc, "notes", note(alloc, 2, 8)?);
     assert!(rt; accepted.map_err(fail)?.index == 1);

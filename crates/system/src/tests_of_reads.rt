@@ -6,7 +6,11 @@ use crate::read::{Answer, Found};
 use crate::session::Session;
 use crate::system::System;
 use book::book::Opened;
+use book::entry::Entry;
 use book::law::Naming;
+use plain::front::{Front, Line};
+use plain::query;
+use plain::stage::are_lines;
 use plan::plan::Plan;
 use row::refused::Refused;
 use row::row::Row;
@@ -42,21 +46,19 @@ fn fail(refused: Refused) -> Fail {
     }
 }
 
-// Whether the answer has exactly the even notes of the first that its cut has, where note after
-// note was inserted.
-fn is_even_part(answer: &Answer) -> bool {
-    let len = answer.cut.len(0, 0);
-    if answer.rows.len() as u64 != len / 2 + len % 2 {
-        return false;
+// Whether the answer has the query's rows over the cut that it names, as the evaluator gives them,
+// where note after note was inserted.
+fn is_right(alloc: Global, plan: &Plan, key: &Value, answer: &Answer) -> Result<bool, AllocError> {
+    let mut entries = Vec::new(alloc);
+    for id in 0..answer.cut.len(0, 0) {
+        entries.push(Entry::Insert(note(alloc, id as usize)?))?;
     }
-    let mut id: i128 = 0;
-    for row in &answer.rows {
-        if row.width() != 3 || !row.has(0, &Value::Int(id)) || !row.has(1, &EVEN) {
-            return false;
-        }
-        id = id.wrapping_add(2);
+    let line = Line::new(vec![in alloc; Front::new(entries)]?);
+    let lines = vec![in alloc; line]?;
+    if plan.views() == 0 || !are_lines(plan, &lines) {
+        return Ok(false);
     }
-    true
+    Ok(query::answer(alloc, plan, &lines, 0, key)? == answer.rows)
 }
 
 #[test]
@@ -77,17 +79,18 @@ fn reads_of_one<
     let mut system = System::<J>::start(rt, alloc, opened, plan, 1).map_err(fail)?;
     let mut session = system.session(alloc).map_err(fail)?;
     let answer = session.read(alloc, VIEW, &EVEN).map_err(fail)?;
-    assert!(rt; answer.cut.len(0, 0) == 0 && is_even_part(&answer));
+    assert!(rt; answer.cut.len(0, 0) == 0 && answer.rows.is_empty());
     for id in 0..3 {
         session
             .insert(&rt, alloc, "notes", note(alloc, id)?)
             .map_err(fail)?;
     }
     session.fence(&rt, alloc).map_err(fail)?;
-    let answer = session.read(alloc, VIEW, &EVEN).map_err(fail)?;
-    assert!(rt; answer.cut.len(0, 0) == 3 && is_even_part(&answer));
-    let answer = session.read(alloc, VIEW, &ODD).map_err(fail)?;
-    assert!(rt; answer.cut.len(0, 0) == 3 && answer.rows.len() == 1);
+    for (key, rows) in [(EVEN, 2), (ODD, 1), (Value::Int(9), 0)] {
+        let answer = session.read(alloc, VIEW, &key).map_err(fail)?;
+        assert!(rt; answer.cut.len(0, 0) == 3 && answer.rows.len() == rows);
+        assert!(rt; is_right(alloc, session.plan(), &key, &answer)?);
+    }
     let nowhere = session.try_read(alloc, "nope", &EVEN);
     assert!(rt; matches!(nowhere, Err(Refused::UnknownView)));
     let text = Value::Text(String::from_str(alloc, "x")?);
@@ -96,17 +99,11 @@ fn reads_of_one<
     system.stop(&rt);
     let late = session.insert(&rt, alloc, "notes", note(alloc, 3)?);
     assert_eq!(rt; late.map(|accepted| accepted.index), Err(Refused::Stopped));
-    let found = session.try_read(alloc, VIEW, &EVEN).map_err(fail)?;
-    assert!(rt; is_hit_of(&found, 3));
-    Ok(())
-}
-
-// Whether it is a hit that has the even notes of the first so many.
-fn is_hit_of(found: &Found, len: u64) -> bool {
-    match found {
-        Found::Hit(answer) => answer.cut.len(0, 0) == len && is_even_part(answer),
-        Found::Miss => false,
+    match session.try_read(alloc, VIEW, &EVEN).map_err(fail)? {
+        Found::Hit(answer) => assert!(rt; is_right(alloc, session.plan(), &EVEN, &answer)?),
+        Found::Miss => return Err(Fail::from("a miss")),
     }
+    Ok(())
 }
 
 /// How many notes the writing session inserts, how many reads each reading session makes, and
@@ -133,13 +130,16 @@ fn reads_beside<
     requires sessions { (opened.sessions ≡ J.sessions) × (J.sessions ≡ 4) }
 {
     let mut system = System::<J>::start(rt, alloc, opened, plan, 4).map_err(fail)?;
+    let mut session = system.session(alloc).map_err(fail)?;
+    session
+        .insert(&rt, alloc, "notes", note(alloc, 0)?)
+        .map_err(fail)?;
     let mut readers = Vec::new(alloc);
     for _reader in 0..3 {
         let session = system.session(alloc).map_err(fail)?;
         let work = move || reads_grow(rt, alloc, session);
         readers.push(thread::spawn(&rt, work)?)?;
     }
-    let session = system.session(alloc).map_err(fail)?;
     let writer = thread::spawn(&rt, move || writes_are_read(rt, alloc, session))?;
     for reader in readers {
         assert!(rt; reader.join(&rt).map_err(fail)?);
@@ -149,21 +149,22 @@ fn reads_beside<
     Ok(())
 }
 
-// Reads again and again, and says whether each answer was right and no cut was smaller than the
-// one before.
+// Reads again and again, and says whether each answer was right, had the first note, and named no
+// smaller cut than the one before.
 fn reads_grow<J: Naming, R: Wait + Drop>(
     rt: R,
     alloc: Global,
     mut session: Session<J>,
 ) -> Result<bool, Refused> {
-    let mut last = 0;
+    let mut last = 1;
     for read in 0..READS {
         if read % BETWEEN == 0 {
             session.fence(&rt, alloc)?;
         }
-        let answer = session.read(alloc, VIEW, &EVEN)?;
+        let key = if read % 2 == 0 { EVEN } else { ODD };
+        let answer = session.read(alloc, VIEW, &key)?;
         let len = answer.cut.len(0, 0);
-        if len < last || !is_even_part(&answer) {
+        if len < last || !is_right(alloc, session.plan(), &key, &answer)? {
             return Ok(false);
         }
         last = len;
@@ -171,18 +172,21 @@ fn reads_grow<J: Naming, R: Wait + Drop>(
     Ok(true)
 }
 
-// Inserts note after note, and says whether each read after a fence had all that were inserted.
+// Inserts the notes after the first, and says whether each read after a fence had all that were
+// inserted.
 fn writes_are_read<J: Naming, R: Wait + Drop>(
     rt: R,
     alloc: Global,
     mut session: Session<J>,
 ) -> Result<bool, Refused> {
-    for id in 0..NOTES {
+    for id in 1..NOTES {
         session.insert(&rt, alloc, "notes", note(alloc, id)?)?;
         if id % BETWEEN == 7 {
             session.fence(&rt, alloc)?;
             let answer = session.read(alloc, VIEW, &EVEN)?;
-            if answer.cut.len(0, 0) != id as u64 + 1 || !is_even_part(&answer) {
+            if answer.cut.len(0, 0) != id as u64 + 1
+                || !is_right(alloc, session.plan(), &EVEN, &answer)?
+            {
                 return Ok(false);
             }
         }
