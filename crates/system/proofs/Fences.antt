@@ -17,7 +17,7 @@ use Rattle.book.proofs.Later.{at_most_trans}
 use Rattle.book.proofs.Lines.{even_at, same_in}
 use Rattle.view.specs.Snapshots.{Snapshot, IsLater}
 use Rattle.system.specs.Callers.{Caller, accepted_at, whole_cut, IsCaller}
-use Rattle.system.specs.Fences.{place_of, own_places, IsFloored, IsCovering, AreLonger, IsFenced}
+use Rattle.system.specs.Fences.{place_of, own_places, IsFloored, IsFlooredByShown, IsCovering, AreLonger, AreShown, IsFenced}
 use Rattle.system.proofs.Callers.{log_grows, wrote_later, wrote_within, cut_mono, caller_later}
 
 abbrev pub bases_of : List FrontView → List ℕ
@@ -124,6 +124,13 @@ own_past p c fs x is each v j lv lj = subst (λ (d : Lengths). Each (IsPast p d)
 pub floored : (p : Layout) (old new : Caller) (fs : List FrontView) → new.floors ≡ even_floors p (lens_of fs) → bases_of fs ≡ sources p → Each (IsCovering old.seen) fs → IsFloored p old.seen new
 floored p old new fs even is each v j lv lj s i ls li = subst (λ (d : Lengths). length (log_of (source_at p i) old.seen) ≤ len_at d s i) (sym (ap (λ (x : Floors). floor_at x v j) even ∙ even_at p (lens_of fs) v j lv lj)) (length_at p old.seen fs s i is each ls li)
 
+pub floored_by_shown : (p : Layout) (c : Caller) (fs : List FrontView) → c.floors ≡ even_floors p (lens_of fs) → bases_of fs ≡ sources p → AreShown c.shown fs → IsFlooredByShown p c
+floored_by_shown p c fs even is shown v j lv lj s i ls li =
+    let line : slice_index_or (replicate p.stages (lens_of fs)) s [] ≡ lens_of fs = same_in (lens_of fs) [] p.stages s ls in
+    let at : len_at (replicate p.stages (lens_of fs)) s i ≡ slice_index_or (lens_of fs) i 0 = ap (λ (l : List ℕ). slice_index_or l i 0) line in
+    let n : length fs ≡ length (sources p) = sym (length-map fs (λ (f : FrontView). f.base)) ∙ ap length is in
+    ap (λ (x : Floors). len_at (floor_at x v j) s i) even ∙ (ap (λ (d : Lengths). len_at d s i) (even_at p (lens_of fs) v j lv lj) ∙ (at ∙ shown i (omega (arith, li, n))))
+
 -- ---- the session afterwards
 floor_whole : (p : Layout) (h : List Item) (floors : Floors) (fs : List FrontView) → floors ≡ even_floors p (lens_of fs) → bases_of fs ≡ sources p → Each (IsReached h) fs → EachShard p (λ v j. IsAtMost (floor_at floors v j) (whole_cut p h))
 floor_whole p h floors fs even is each v j lv lj = subst (λ (d : Lengths). IsAtMost d (whole_cut p h)) (sym (ap (λ (x : Floors). floor_at x v j) even ∙ even_at p (lens_of fs) v j lv lj)) (whole_reached p h fs is each)
@@ -137,7 +144,7 @@ caller_fenced p c m h floors fs v x grown even is each =
 pub each_reached_later : (h w : List Item) (fs : List FrontView) → IsPrefix h w → Each (IsReached h) fs → Each (IsReached w) fs
 each_reached_later h w fs grown = Each-weaker (IsReached h) (IsReached w) (λ f r. record { seen = prefix_trans f.seen h w r.seen grown; len = omega (arith, r.len, prefix_length (log_of f.base h) (log_of f.base w) (log_grows f.base h w grown)) }) fs
 
--- ---- what was acknowledged is no shorter than what was looked at
+-- ---- what is shown is no shorter than what was looked at
 pub longer_covers : (h : List Item) (fs gs : List FrontView) → bases_of gs ≡ bases_of fs → AreLonger fs gs → Each (IsCovering h) fs → Each (IsCovering h) gs
 longer_covers h [] [] is longer each = tt
 longer_covers h [] (g ∷ gs) is longer each = absurd (cc is)
@@ -166,13 +173,14 @@ longer_next fs i f g gs small is e longer le = rw (take_more fs i f small, ← i
 pub added_grows : (p : Layout) (k : ℕ) (v : List Item) (i : Item) (w : List Item) → IsAdded p k v i w → IsPrefix v w
 added_grows p k v i w x = (x.between ++ i ∷ [], sym (x.added ∙ append_assoc v x.between (i ∷ [])))
 
-pub fenced : (p : Layout) (c : Caller) (before h : List Item) (floors : Floors) (own : List Place) (fs : List FrontView) (v : Snapshot) → IsLater c.shown v → IsPrefix c.seen before → own ≡ own_places p c.accepted → floors ≡ even_floors p (lens_of fs) → bases_of fs ≡ sources p → Each (IsCovering c.seen) fs
+pub fenced : (p : Layout) (c : Caller) (before h : List Item) (floors : Floors) (own : List Place) (fs : List FrontView) (v : Snapshot) → IsLater c.shown v → IsPrefix c.seen before → own ≡ own_places p c.accepted → floors ≡ even_floors p (lens_of fs) → bases_of fs ≡ sources p → Each (IsCovering c.seen) fs → AreShown v fs
     → IsAdded p (own_word p c.session) before (fence c.session own floors) h → IsFenced p c (record { session = c.session; number = c.number + 1; stolen = c.stolen; seen = h; accepted = c.accepted; floors = floors; shown = v })
-fenced p c before h floors own fs v looked grown places even is each added = record {
+fenced p c before h floors own fs v looked grown places even is each shown added = record {
   before = before;
   grown = grown;
   item = subst (λ (l : List Place). IsAdded p (own_word p c.session) before (fence c.session l floors) h) places added;
   floored = floored p c (record { session = c.session; number = c.number + 1; stolen = c.stolen; seen = h; accepted = c.accepted; floors = floors; shown = v }) fs even is each;
+  shown = floored_by_shown p (record { session = c.session; number = c.number + 1; stolen = c.stolen; seen = h; accepted = c.accepted; floors = floors; shown = v }) fs even is shown;
   after = refl;
   looked = looked;
 }

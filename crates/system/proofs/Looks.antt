@@ -48,12 +48,17 @@ one_line : (line : List ℕ) (c : Lengths) → ((j : ℕ) → slice_index_or lin
 one_line line c le zero j = le j
 one_line line c le (suc s) j = omega arith
 
+shown_below : (f : ℕ → ℕ) (fs : List FrontView) → ((j : ℕ) → j < length fs → slice_index_or (lens_of fs) j 0 ≡ f j) → (j : ℕ) → slice_index_or (lens_of fs) j 0 ≤ f j
+shown_below f [] h j = omega arith
+shown_below f (x ∷ fs) h zero = let e = h 0 (omega arith) in omega (arith, e)
+shown_below f (x ∷ fs) h (suc j) = shown_below (λ n. f (suc n)) fs (λ n lt. h (suc n) (omega (arith, lt))) j
+
 pub looks_fenced : (p : Layout) (c : Caller) (m : ℕ) (h : List Item) (floors : Floors) (fs : List FrontView) → IsLooking p c → floors ≡ even_floors p (lens_of fs) → AreShown c.shown fs
     → IsLooking p (record { session = c.session; number = m; stolen = c.stolen; seen = h; accepted = c.accepted; floors = floors; shown = c.shown })
 looks_fenced p c m h floors fs x even shown =
     let at : floor_at (even_floors p (lens_of fs)) 0 0 ≡ replicate p.stages (lens_of fs) = even_at p (lens_of fs) 0 0 (omega (arith, x.single.views)) (omega (arith, x.single.view_shards)) in
     let one : floor_at floors 0 0 ≡ lens_of fs ∷ [] = ap (λ f. floor_at f 0 0) even ∙ (at ∙ ap (λ n. replicate n (lens_of fs)) x.single.stages) in
-    record { single = x.single; view = x.view; shard = x.shard; floor = subst (λ (d : Lengths). IsAtMost d c.shown.cut.lengths) (sym one) (one_line (lens_of fs) c.shown.cut.lengths shown) }
+    record { single = x.single; view = x.view; shard = x.shard; floor = subst (λ (d : Lengths). IsAtMost d c.shown.cut.lengths) (sym one) (one_line (lens_of fs) c.shown.cut.lengths (shown_below (λ j. len_at c.shown.cut.lengths 0 j) fs shown)) }
 
 -- ---- a read
 floor_set : (F : Floors) (c d : Lengths) → IsAtMost c d → IsAtMost (floor_at (with_floor F 0 0 c) 0 0) d
@@ -165,6 +170,7 @@ module _ (p : Layout) (old mid new : Caller) (x : HasLooked old mid) where
     grown = rw seen_same at r.grown;
     item = rw (session_same, accepted_same) at r.item;
     floored = rw seen_same at r.floored;
+    shown = r.shown;
     after = rw (session_same, number_same, stolen_same, accepted_same) at r.after;
     looked = later_trans old.shown mid.shown new.shown x.looked r.looked;
   }
@@ -178,14 +184,11 @@ source_of p fs i f is lt at = ap (λ bs. slice_index_or bs i 0) (sym is) ∙ bas
     base_in (y ∷ gs) zero small e = ap (λ (v : FrontView). v.base) (sym e)
     base_in (y ∷ gs) (suc j) small e = base_in gs j (omega (arith, small)) e
 
-below_push : (f : ℕ → ℕ) (xs : List ℕ) (x : ℕ) → ((j : ℕ) → slice_index_or xs j 0 ≤ f j) → x ≤ f (length xs) → (j : ℕ) → slice_index_or (xs ++ x ∷ []) j 0 ≤ f j
-below_push f [] x h le zero = le
-below_push f [] x h le (suc j) = omega arith
-below_push f (y ∷ xs) x h le zero = h 0
-below_push f (y ∷ xs) x h le (suc j) = below_push (λ n. f (suc n)) xs x (λ n. h (suc n)) le j
+shown_push : (f : ℕ → ℕ) (gs : List FrontView) (g : FrontView) → ((j : ℕ) → j < length gs → slice_index_or (lens_of gs) j 0 ≡ f j) → g.len ≡ f (length gs) → (j : ℕ) → j < length (gs ++ g ∷ []) → slice_index_or (lens_of (gs ++ g ∷ [])) j 0 ≡ f j
+shown_push f [] g h is zero lt = is
+shown_push f [] g h is (suc j) lt = absurd (omega (arith, lt))
+shown_push f (y ∷ gs) g h is zero lt = h 0 (omega arith)
+shown_push f (y ∷ gs) g h is (suc j) lt = shown_push (λ n. f (suc n)) gs g (λ n small. h (suc n) (omega (arith, small))) is j (omega (arith, lt))
 
-pub shown_next : (c : Lengths) (gs : List FrontView) (g : FrontView) → ((j : ℕ) → slice_index_or (lens_of gs) j 0 ≤ len_at c 0 j) → g.len ≡ len_at c 0 (length gs) → (j : ℕ) → slice_index_or (lens_of (gs ++ g ∷ [])) j 0 ≤ len_at c 0 j
-shown_next c gs g h is j =
-    let n : length (lens_of gs) ≡ length gs = length-map gs (λ (f : FrontView). f.len) in
-    let le : g.len ≤ len_at c 0 (length (lens_of gs)) = rw n (omega (arith, is)) in
-    rw (map-append (λ (f : FrontView). f.len) gs (g ∷ [])) (below_push (λ i. len_at c 0 i) (lens_of gs) g.len h le j)
+pub shown_next : (c : Lengths) (gs : List FrontView) (g : FrontView) → ((j : ℕ) → j < length gs → slice_index_or (lens_of gs) j 0 ≡ len_at c 0 j) → g.len ≡ len_at c 0 (length gs) → (j : ℕ) → j < length (gs ++ g ∷ []) → slice_index_or (lens_of (gs ++ g ∷ [])) j 0 ≡ len_at c 0 j
+shown_next c gs g h is = shown_push (λ i. len_at c 0 i) gs g h is

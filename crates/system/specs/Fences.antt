@@ -36,12 +36,17 @@ AreLonger [] gs = Unit {0}
 AreLonger (f ∷ fs) [] = Unit {0}
 AreLonger (f ∷ fs) (g ∷ gs) = (f.len ≤ g.len) × AreLonger fs gs
 
--- a fence item stands at the end of what was then seen, with the greatest accepted index of each source, and each floor has all that its session had seen
+-- each floor is, of each source, what is shown
+abbrev pub IsFlooredByShown : Layout → Caller → Type 0
+IsFlooredByShown p c = EachShard p (λ v j. (s i : ℕ) → s < p.stages → i < length (sources p) → len_at (floor_at c.floors v j) s i ≡ len_at c.shown.cut.lengths 0 i)
+
+-- a fence item stands at the end of what was then seen, with the greatest accepted index of each source, and each floor is what was then shown, which has all that its session had seen
 pub record IsFenced (p : Layout) (old new : Caller) : Type 0 where
   pub before : List Item
   pub grown : IsPrefix old.seen before
   pub item : IsAdded p (own_word p old.session) before (fence old.session (own_places p old.accepted) new.floors) new.seen
   pub floored : IsFloored p old.seen new
+  pub shown : IsFlooredByShown p new
   pub after : new ≡ record { session = old.session; number = old.number + 1; stolen = old.stolen; seen = new.seen; accepted = old.accepted; floors = new.floors; shown = new.shown }
   pub looked : IsLater old.shown new.shown
 
@@ -55,4 +60,4 @@ pub record IsUnfenced (old new : Caller) (r : Refused) : Type 0 where
 
 -- each front has the length that is shown of its source
 abbrev pub AreShown : Snapshot → List FrontView → Type 0
-AreShown s fs = (j : ℕ) → slice_index_or (map (λ (f : FrontView). f.len) fs) j 0 ≤ len_at s.cut.lengths 0 j
+AreShown s fs = (j : ℕ) → j < length fs → slice_index_or (map (λ (f : FrontView). f.len) fs) j 0 ≡ len_at s.cut.lengths 0 j

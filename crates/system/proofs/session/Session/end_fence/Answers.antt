@@ -43,7 +43,7 @@ returns-then-fence-clause-fenced g c =
     let session = told.session ∙ c.learn.ensures.session in
     let even = told.after ∙ c.in-Ok-even.ensures.floors in
     let added = rw (c.learn.ensures.session, ← told.after) at told.item in
-    rw (← c.self.view_is, c.part.ensures.part, session) (fenced p _ c.learn.new.self.seen h c.fence.new.self.floors (places_of c.in-Ok.own.items) c.args.fronts.now _ (later_self _) c.learn.ensures.others c.in-Ok.ensures even c.requires.bases all added)
+    rw (← c.self.view_is, c.part.ensures.part, session) (fenced p _ c.learn.new.self.seen h c.fence.new.self.floors (places_of c.in-Ok.own.items) c.args.fronts.now _ (later_self _) c.learn.ensures.others c.in-Ok.ensures even c.requires.bases all (rw (← c.self.view_is) at c.requires.shown) added)
 
 pub invariant_of-self-else-fence : goal.invariant_of-self-else-fence
 invariant_of-self-else-fence g c =
