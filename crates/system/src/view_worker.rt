@@ -1,5 +1,5 @@
 //! The thread of a view's shard.
-ghost use Rattle.std.specs.Prelude.{◌≡◌, [], true, drop as dropped, IfOk, OnOk, IfErr, OnErr, IsTrue, IfSome, IsSome, Some, None};
+ghost use Rattle.std.specs.Prelude.{◌≡◌, ◌≢◌, ◌⊎◌, [], true, false, drop as dropped, IfOk, OnOk, IfErr, OnErr, IsTrue, IfSome, IsSome, Some, None};
 ghost use Rattle.book.specs.Sessions.{with_length};
 ghost use Rattle.book.specs.Histories.{len_at};
 ghost use Rattle.system.specs.Messages.{OnMarker, OnPacket};
@@ -59,6 +59,7 @@ fn take<J: Naming, R: Wait + Drop>(
     ensures pending { result.0 ≡ true → dropped writer.new.writer.behind writer.new.writer.log.items ≡ [] }
     ensures stays { result.0 ≡ true → running ≡ true }
     ensures shown { OnPacket (λ k. result.0 ≡ true → (len_at writer.old.writer.desk.shown.value.cut.lengths 0 0 ≡ k.from) × (writer.new.writer.desk.shown.value.cut.lengths ≡ with_length writer.old.writer.desk.shown.value.cut.lengths 0 0 k.to.len)) message }
+    ensures stopped { OnPacket (λ k. result.0 ≡ false → writer.new.writer.desk.shown.value ≡ writer.old.writer.desk.shown.value) message }
     ensures unacknowledged { OnPacket (λ k. result.1 ≡ None) message }
     ensures acknowledged { OnMarker (λ m. (result.1 ≡ Some (record { marker = m; running = running })) × (writer.new.writer.desk.shown.value ≡ writer.old.writer.desk.shown.value) × (result.0 ≡ running)) message }
 {
@@ -68,7 +69,8 @@ fn take<J: Naming, R: Wait + Drop>(
     }
 }
 
-// Shows what a packet changes.
+// Shows what a packet changes. Refused with `Gap` where it does not start at what is shown, or
+// `NoMemory`; what is shown is then as it was.
 fn show<J: Naming, R: Wait + Drop>(
     alloc: Global,
     plan: &Plan,
@@ -84,6 +86,7 @@ fn show<J: Naming, R: Wait + Drop>(
     ensures starts { OnOk result (len_at writer.old.writer.desk.shown.value.cut.lengths 0 0 ≡ packet.from) }
     ensures shown { OnOk result (writer.new.writer.desk.shown.value.cut.lengths ≡ with_length writer.old.writer.desk.shown.value.cut.lengths 0 0 packet.to.len) }
     ensures err { OnErr result (writer.new.writer.desk.shown.value ≡ writer.old.writer.desk.shown.value) }
+    ensures why { IfErr result (λ e. (e ≡ Refused.NoMemory) ⊎ (e ≡ Refused.Gap) × (len_at writer.old.writer.desk.shown.value.cut.lengths 0 0 ≢ packet.from)) }
 {
     let delta = delta_of(alloc, plan, writer.cut(), packet)?;
     writer.append(delta)?;
@@ -105,12 +108,14 @@ fn delta_of<J: Naming>(
     ensures before { IfOk result (λ d. d.before ≡ cut.now) }
     ensures starts { OnOk result (len_at cut.now.lengths 0 0 ≡ packet.from) }
     ensures after { IfOk result (λ d. d.after.lengths ≡ with_length cut.now.lengths 0 0 packet.to.len) }
+    ensures why { IfErr result (λ e. (e ≡ Refused.NoMemory) ⊎ (e ≡ Refused.Gap) × (len_at cut.now.lengths 0 0 ≢ packet.from)) }
 {
     if cut.lengths().len(0, 0) != packet.from() {
         return Err(Refused::Gap);
     }
     let before = cut.again(alloc)?;
     let mut after = cut.again(alloc)?;
+    // The facts of the cut and of the packet: both are within one history.
     cut.is_within();
     packet.to().len();
     packet.base();
