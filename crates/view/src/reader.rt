@@ -75,7 +75,8 @@ impl<J: Naming> ShownReader<J> {
         })
     }
 
-    /// One more reader of the same copy. Refused where each place for a reader is in use.
+    /// One more reader of the same copy, which has looked once. Refused where the writer is gone,
+    /// or each place for a reader was found in use.
     pub fn another(&self) -> Result<ShownReader<J>, AllocError>
         ensures view { IfOk result (λ r. r.view ≡ self.now.view) }
         ensures shard { IfOk result (λ r. r.shard ≡ self.now.shard) }

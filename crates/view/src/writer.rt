@@ -105,9 +105,10 @@ impl<J: Naming, R: Wait + Drop> ShownWriter<J, R> {
         }
     }
 
-    /// Shows readers the copy with each delta that was appended, and waits for those that still
-    /// read the other. Refused for want of memory alone; readers then see what they saw, and the
-    /// deltas are still to be published. Cost: each record is applied to both copies.
+    /// Waits for readers that still look at the copy behind, applies each delta that was appended to
+    /// it, and turns readers to it. Refused for want of memory alone; readers then see what they
+    /// saw, and the deltas are still to be published. Cost: each record is applied to both copies,
+    /// and a look at the place of each reader.
     pub fn publish(&mut self) -> Result<(), AllocError>
         requires chain { IsChain self.old.writer.desk.shown.value (dropped self.old.writer.behind self.old.writer.log.items) }
         ensures shown { OnOk result (self.new.writer.desk.shown.value ≡ fold applied self.old.writer.desk.shown.value (dropped self.old.writer.behind self.old.writer.log.items)) }
@@ -115,6 +116,7 @@ impl<J: Naming, R: Wait + Drop> ShownWriter<J, R> {
         ensures err { OnErr result ((self.new.writer.desk.shown.value ≡ self.old.writer.desk.shown.value) × (dropped self.new.writer.behind self.new.writer.log.items ≡ dropped self.old.writer.behind self.old.writer.log.items)) }
         ensures later { IsLater self.old.writer.desk.shown.value self.new.writer.desk.shown.value }
         ensures seen { OnOk result (sight_of self.new.writer.desk.place ≡ Some self.new.writer.desk.shown.value) }
+        ensures kept { OnErr result (sight_of self.new.writer.desk.place ≡ sight_of self.old.writer.desk.place) }
     {
         replace_with(
             &mut self.writer,
@@ -137,6 +139,7 @@ fn publish_by<J: Naming, R: Wait>(
     ensures err { OnErr result.1 ((result.0.desk.shown.value ≡ writer.desk.shown.value) × (dropped result.0.behind result.0.log.items ≡ dropped writer.behind writer.log.items)) }
     ensures later { IsLater writer.desk.shown.value result.0.desk.shown.value }
     ensures seen { OnOk result.1 (sight_of result.0.desk.place ≡ Some result.0.desk.shown.value) }
+    ensures kept { OnErr result.1 (sight_of result.0.desk.place ≡ sight_of writer.desk.place) }
 {
     writer.publish_as::<Looks, R>(rt)
 }
