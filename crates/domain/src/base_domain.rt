@@ -128,7 +128,7 @@ impl<J: Naming> BaseDomain<J> {
         self.stopped
     }
 
-    /// Stops: from then on it answers `Stopped` to every write and fence, and nothing changes.
+    /// Stops: from then on it answers `Stopped` to every write, and nothing changes.
     pub fn stop(&mut self)
         ensures { self.new ≡ record { front = self.old.front; next = self.old.next; stopped = true } }
     {
@@ -137,11 +137,11 @@ impl<J: Naming> BaseDomain<J> {
     }
 
     /// Takes a write, and gives the reply; none where the write's number is not above all of its
-    /// session in the log, and then nothing changes.
+    /// session in the log, or its session is none of the system's, and then nothing changes.
     ///
     /// Accepted, the entry was appended by one step, after all that was seen, and there is a packet
     /// of what it changes in the rows, from the old front to the new one. Else there is none, and
-    /// the reply is `Duplicate`, `Absent` or `LogFull` exactly where the log refuses the entry,
+    /// the reply is `Duplicate`, `Absent` or `LogFull` only where the log refuses the entry so,
     /// `NoMemory`, or `Stopped` where the domain had stopped or the log has moved; where it has
     /// moved the domain stops. What is not accepted leaves the rest as it was. All memory is taken
     /// before the step. Cost: two look-ups by the key, three for a Delete or an Update, and copies
@@ -153,6 +153,7 @@ impl<J: Naming> BaseDomain<J> {
         ensures front { IfSome result (λ o. IfErr o.reply (λ d. d.front.base ≡ write.base)) }
         ensures ignored { IfNone result (self.new ≡ self.old) }
         ensures late { IfNone result ((length self.old.next ≤ write.session) ⊎ (write.number < slice_index_or self.old.next write.session 0)) }
+        ensures low { self.old.stopped ≡ false → write.number < slice_index_or self.old.next write.session 0 → result ≡ None }
         ensures accepted { IfSome result (λ o. IfOk o.reply (λ w. Takes J.plan self.old write w self.new)) }
         ensures declined { IfSome result (λ o. IfErr o.reply (λ d. Declines J.plan self.old write d self.new)) }
         ensures sent { IfSome result (λ o. IfOk o.reply (λ w. IsSomeAnd o.packet (λ k. Sends J.plan self.old.front write.entry k self.new.front))) }
