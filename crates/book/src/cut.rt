@@ -35,7 +35,8 @@ impl Model for Lengths {
     ghost view = { λ c. map (λ l. l.items) c.lines.items };
 }
 
-/// A cut, and a history in which its lengths were reached. So it stands for the fronts that it names.
+/// A cut, and a history in which its lengths were reached. So it stands for the fronts that it
+/// names.
 #[derive(Drop)]
 pub struct Cut<J: Naming> {
     pub(crate) lengths: Lengths,

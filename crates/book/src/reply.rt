@@ -106,7 +106,8 @@ impl<J: Naming> Front<J> {
         self.len = look_at(book, self.base, &mut self.seen);
     }
 
-    /// Takes the reply to a write that was sent after this front had all that was seen. It is not the reply where its place was seen before.
+    /// Takes the reply to a write that was sent after this front had all that was seen. It is not the
+    /// reply where its place was seen before.
     pub fn settle(&mut self, reply: &Written<J>) -> bool
         requires whole { IsWhole self.old }
         requires base { self.old.base ≡ reply.now.base }

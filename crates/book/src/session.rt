@@ -179,8 +179,8 @@ impl<J: Naming> SessionWord<J> {
         }
     }
 
-    /// Ends a fence with a cut for each shard of each view, and says whether it did. It did not where
-    /// the session's word has moved.
+    /// Ends a fence with a cut for each shard of each view, and says whether it did. It did not
+    /// where the session's word has moved.
     pub fn fence(&mut self, book: &Book<J>, own: &Vec<Place>, cuts: Cuts<J>) -> bool
         requires floors { EachShard J.plan (λ v j. IsAtMost (floor_at self.old.floors v j) (floor_at cuts.floors v j)) }
         requires past { EachShard J.plan (λ v j. Each (IsPast J.plan (floor_at cuts.floors v j)) (places_of own.now.items)) }

@@ -33,7 +33,7 @@ pub enum Refused {
     Stolen,
     #[error("no session is left")]
     NoSessionLeft,
-    #[error("an acknowledgement was shorter than what the session had seen")]
+    #[error("less is shown of a source than the session has looked at")]
     Behind,
     #[error("a packet came out of turn")]
     Gap,

@@ -42,9 +42,9 @@ impl<J: Naming> Session<J> {
     /// for the key over the cut that it names, which is never below the session's floor there. A
     /// miss changes nothing.
     ///
-    /// Refused with, looked for in this order: `Stolen` where the session's call numbers are spent,
-    /// `UnknownView`, `BadKey` where the key is no cell of the key column; then `NoMemory`, or
-    /// `Stolen` where its word was moved by another. A refused read leaves the floors and what was
+    /// Refused with, looked for in this order: `Stolen` where the session's call numbers are spent or
+    /// its word was found moved before, `UnknownView`, `BadKey` where the key is no cell of the key
+    /// column; then `NoMemory`, or `Stolen` where its word was moved by another. A refused read leaves the floors and what was
     /// accepted, and but for `Stolen` what was seen. Cost: a look at each view's name, one look-up
     /// and a copy of the rows and of the cut.
     pub fn try_read(&mut self, alloc: Global, view: &str, key: &Value) -> Result<Found, Refused>

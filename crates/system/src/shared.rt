@@ -146,7 +146,8 @@ impl<J: Naming> Shared<J> {
         self.queues.get(base)?.take(rt)
     }
 
-    /// Closes the queues to the base shards: nothing more is taken, and what was sent is still answered.
+    /// Closes the queues to the base shards: nothing more is taken, and what was sent is still
+    /// answered.
     pub fn close<R: Wait>(&self, rt: &R) {
         for queue in &self.queues {
             queue.close(rt);
