@@ -3,8 +3,8 @@ use Rattle.std.proofs.Common.{◌≡◌, ℕ, ◌<◌, true, false, cond, List, 
 use Rattle.row.specs.Cells.{Datum, Cells, cell_at}
 use Rattle.row.proofs.Shards.{cell_there}
 use Rattle.row.specs.declared.refused.Refused.TheVariants.{Duplicate, Absent}
-use Rattle.book.specs.Logs.{Change, inserts, updates, is_held}
-use Rattle.book.specs.Refusals.{full, refusal, refusal_over}
+use Rattle.model.specs.Logs.{Change, inserts, updates, is_held}
+use Rattle.model.specs.Refusals.{full, refusal, refusal_over}
 use Rattle.base.specs.Shards.{Shard, IsAt, verdict}
 use Rattle.base.proofs.Fronts.{refusal_at}
 

@@ -3,7 +3,7 @@ use Rattle.std.proofs.Common.{◌≡◌, suc, ◌<◌, Bool, true, false, ◌&&�
 use Rattle.row.specs.Cells.{Cells}
 use Rattle.plan.specs.Layouts.{TableLayout, ColumnLayout}
 use Rattle.plan.specs.Kinds.{is_cell, is_row}
-use Rattle.book.specs.Logs.{Change, inserts, deletes, updates, fits}
+use Rattle.model.specs.Logs.{Change, inserts, deletes, updates, fits}
 use Rattle.base.specs.Shards.{HasKey}
 
 both : (a b : Bool) → (a && b) ≡ true → b ≡ true

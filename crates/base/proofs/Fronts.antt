@@ -5,9 +5,9 @@ use Rattle.row.specs.CellOrder.{row_total, row_same}
 use Rattle.row.specs.Bags.{sorted, IsAlike}
 use Rattle.row.proofs.BagLemmas.{times-append}
 use Rattle.row.proofs.Alike.{filter_alike, sorted_alike}
-use Rattle.book.specs.Logs.{Change, inserts, deletes, updates, changed, rows_of}
-use Rattle.book.specs.Refusals.{refusal, refusal_over}
-use Rattle.book.proofs.LogLaws.{rows_of-push}
+use Rattle.model.specs.Logs.{Change, inserts, deletes, updates, changed, rows_of}
+use Rattle.model.specs.Refusals.{refusal, refusal_over}
+use Rattle.model.proofs.LogLaws.{rows_of-push}
 use Rattle.base.specs.Shards.{Shard, IsAt}
 use Rattle.base.proofs.Orders.{any_sorted, sorted_self, map_alike}
 

@@ -16,8 +16,8 @@ use Rattle.row.specs.declared.value.Value.{Value}
 use Rattle.row.specs.contracts.value.ValuePartialEq.TheImpl.{eq-value}
 use Rattle.row.proofs.BagLemmas.{times-append, times-sorted, one_list}
 use Rattle.row.proofs.Alike.{filter_alike, length_alike}
-use Rattle.book.specs.Logs.{Change, inserts, deletes, updates, changed, rows_of}
-use Rattle.book.proofs.LogLaws.{rows_of-push}
+use Rattle.model.specs.Logs.{Change, inserts, deletes, updates, changed, rows_of}
+use Rattle.model.proofs.LogLaws.{rows_of-push}
 use Rattle.base.specs.Shards.{Shard, IsAt}
 use Rattle.base.specs.Records.{plus_of, minus_of, records_of, record_count}
 use Rattle.base.specs.Stored.{IsKeyed, AreKeyed}

@@ -3,7 +3,7 @@ use Rattle.std.specs.Prelude.{ℕ, List, [], ◌∷◌, ◌++◌, map, filter}
 use Rattle.row.specs.Cells.{Cells, cell_at, has}
 use Rattle.row.specs.declared.record.Record.{Record}
 use Rattle.row.specs.declared.record.Sign.TheVariants.{Plus, Minus}
-use Rattle.book.specs.Logs.{Change, inserts, deletes, updates}
+use Rattle.model.specs.Logs.{Change, inserts, deletes, updates}
 
 -- one more of the row, one less of it
 abbrev pub plus_of : Cells → Record

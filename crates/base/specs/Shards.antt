@@ -3,7 +3,7 @@ use Rattle.std.specs.Prelude.{◌≡◌, ℕ, Bool, true, false, ◌<◌, List, 
 use Rattle.row.specs.Cells.{Datum, Cells, cell_at, row_cmp}
 use Rattle.row.specs.Bags.{sorted}
 use Rattle.row.specs.declared.refused.Refused.{Refused}
-use Rattle.book.specs.Logs.{Change, inserts, deletes, updates, rows_of}
+use Rattle.model.specs.Logs.{Change, inserts, deletes, updates, rows_of}
 
 -- the key column, how many entries the log may have, the rows in order, how many entries the log has, and the key for which there is room
 pub record Shard : Type 0 where

@@ -5,14 +5,14 @@ ghost use Rattle.std.specs.HashMap.{get, spare, IsUnique};
 ghost use Rattle.row.specs.Cells.{datum_of, cell_at, has, row_cmp};
 ghost use Rattle.row.specs.Bags.{sorted};
 ghost use Rattle.row.specs.Changes.{Turns};
-ghost use Rattle.book.specs.Logs.{Change, inserts, deletes, updates, changed, is_held, key_of, rows_of};
-ghost use Rattle.book.specs.Refusals.{full, refusal, refusal_over};
-ghost use Rattle.book.specs.Entries.{change_of};
+ghost use Rattle.model.specs.Logs.{Change, inserts, deletes, updates, changed, is_held, key_of, rows_of};
+ghost use Rattle.model.specs.Refusals.{full, refusal, refusal_over};
+ghost use Rattle.model.specs.Entries.{change_of};
 ghost use Rattle.base.specs.Shards.{Shard, IsAt, HasKey, HasRoom, adds_row, room_after, verdict};
 ghost use Rattle.base.specs.Records.{plus_of, minus_of, records_of, record_count};
 ghost use Rattle.base.specs.Stored.{equal};
 
-use book::entry::Entry;
+use model::entry::Entry;
 use row::record::{Record, Sign};
 use row::refused::Refused;
 use row::row::Row;

@@ -1,10 +1,10 @@
 //! A base shard, one entry after another.
 ghost use Rattle.std.specs.Prelude.{◌≡◌, IfOk, length};
-ghost use Rattle.book.specs.Entries.{change_of};
+ghost use Rattle.model.specs.Entries.{change_of};
 ghost use Rattle.base.specs.Shards.{HasKey};
 
 use crate::shard::BaseShard;
-use book::entry::Entry;
+use model::entry::Entry;
 use row::record::{Record, Sign};
 use row::refused::Refused;
 use row::row::Row;

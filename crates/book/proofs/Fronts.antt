@@ -7,11 +7,11 @@ use mathlib.Core.List.{IsPrefix}
 use Rattle.row.specs.Cells.{shard}
 use Rattle.row.specs.Bags.{Each}
 use Rattle.plan.specs.Layouts.{Layout}
-use Rattle.book.specs.Logs.{Change, lawful, fits, key_of}
-use Rattle.book.specs.Places.{layout_of, shard_of}
-use Rattle.book.specs.Histories.{Item, write, Author, entry_in, log_of, author_in, authors_of}
+use Rattle.model.specs.Logs.{Change, lawful, fits, key_of}
+use Rattle.model.specs.Places.{layout_of, shard_of}
+use Rattle.model.specs.Histories.{Item, write, Author, entry_in, log_of, author_in, authors_of}
 use Rattle.book.specs.Words.{count_at}
-use Rattle.book.specs.Legal.{AllowsWrite, limit}
+use Rattle.model.specs.Legal.{AllowsWrite, limit}
 use Rattle.book.specs.Pages.{Page, history_of, IsAdded}
 use Rattle.book.specs.Fronts.{FrontView, entries, authors, IsFront, IsAppended, IsMoved}
 use Rattle.book.proofs.Parts.{length_log, flat_later, entry_blind, author_blind, IsBlind}

@@ -5,13 +5,16 @@ use mathlib.Core.List.{IsPrefix}
 use Rattle.row.specs.Bags.{Each}
 use Rattle.row.proofs.BagLemmas.{Each-weaker}
 use Rattle.plan.specs.Layouts.{ViewLayout, Layout, no_view, view_at}
-use Rattle.book.specs.Histories.{Item, Lengths, len_at, floor_at, log_of}
-use Rattle.book.specs.Places.{sources, source_at}
-use Rattle.book.specs.Cuts.{IsWithin}
+use Rattle.model.specs.Histories.{Item, Lengths, len_at, floor_at, log_of}
+use Rattle.model.specs.Places.{sources, source_at}
+use Rattle.model.specs.Cuts.{IsWithin}
 use Rattle.book.specs.Fronts.{FrontView, IsReached}
-use Rattle.book.specs.Sessions.{AreWithin, even_floors}
-use Rattle.book.proofs.Prefixes.{prefix_self, prefix_trans, prefix_length}
-use Rattle.book.proofs.Later.{log_more}
+use Rattle.book.specs.Sessions.{AreWithin}
+use Rattle.model.specs.Tables.{even_floors}
+use Rattle.model.proofs.Prefixes.{prefix_self, prefix_trans, prefix_length}
+use Rattle.model.proofs.Growth.{log_more}
+use Rattle.model.proofs.CutLaws.{row_at, same_in}
+use Rattle.model.proofs.Lists.{each_push}
 
 pub reached_later : (v w : List Item) (f : FrontView) → IsPrefix v w → IsReached v f → IsReached w f
 reached_later v w f vw r = record {
@@ -26,17 +29,6 @@ reached_later v w f vw r = record {
 
 pub each_later : (v w : List Item) (fs : List FrontView) → IsPrefix v w → Each (IsReached v) fs → Each (IsReached w) fs
 each_later v w fs vw = Each-weaker (IsReached v) (IsReached w) (λ f. reached_later v w f vw) fs
-
--- ---- one line for all stage shards
-pub row_at : (F : ViewLayout → List Lengths) (vs : List ViewLayout) (v : ℕ) (d : ViewLayout) → v < length vs → slice_index_or (map F vs) v [] ≡ F (slice_index_or vs v d)
-row_at F [] v d lt = absurd (omega arith)
-row_at F (w ∷ vs) zero d lt = refl
-row_at F (w ∷ vs) (suc v) d lt = row_at F vs v d (omega arith)
-
-pub same_in : {A : Type 0} (x d : A) (n j : ℕ) → j < n → slice_index_or (replicate n x) j d ≡ x
-same_in x d zero j lt = absurd (omega arith)
-same_in x d (suc n) zero lt = refl
-same_in x d (suc n) (suc j) lt = same_in x d n j (omega arith)
 
 at_most_line : (line : List ℕ) (n s j : ℕ) → len_at (replicate n line) s j ≤ slice_index_or line j 0
 at_most_line line zero s j = omega arith
@@ -73,10 +65,6 @@ even_within p h fs is each =
 pub line_next : (fs : List FrontView) (i : ℕ) (f : FrontView) (line : List ℕ) → i < length fs → f ≡ get_or fs i f → line ≡ map (λ (x : FrontView). x.len) (take i fs) → line ++ f.len ∷ [] ≡ map (λ (x : FrontView). x.len) (take (i + 1) fs)
 line_next fs i f line small is e = rw (take_more fs i f small, ← is, map-append (λ (x : FrontView). x.len) (take i fs) (f ∷ []), e) refl
 
-pub each_push : {X : Type 0} (P : X → Type 0) (xs : List X) (y : X) → Each P xs → P y → Each P (xs ++ y ∷ [])
-each_push P [] y h q = (q, tt)
-each_push P (x ∷ xs) y h q = (h.0, each_push P xs y h.1 q)
-
 pub fronts_next : (v w : List Item) (fs : List FrontView) (i : ℕ) (f : FrontView) → i < length fs → f ≡ get_or fs i f → IsPrefix v w → Each (IsReached v) (take i fs) → IsReached w f → Each (IsReached w) (take (i + 1) fs)
 fronts_next v w fs i f small is vw each one = rw (take_more fs i f small, ← is) (each_push (IsReached w) (take i fs) f (each_later v w (take i fs) vw each) one)
 
@@ -85,11 +73,6 @@ fronts_end h fs i done each = rw (take_all i fs done) at each
 
 pub reached_now : (f : FrontView) (w : List Item) → IsPrefix f.seen w → f.len ≤ length (log_of f.base f.seen) → IsReached w f
 reached_now f w vw le = reached_later f.seen w f vw (record { seen = prefix_self f.seen; len = le })
-
-pub even_at : (p : Layout) (line : List ℕ) (v j : ℕ) → v < length p.views → j < (view_at p v).shards → floor_at (even_floors p line) v j ≡ replicate p.stages line
-even_at p line v j lv lj =
-    let cut = replicate p.stages line in
-    ap (λ (r : List Lengths). slice_index_or r j []) (row_at (λ (w : ViewLayout). replicate w.shards cut) p.views v no_view lv) ∙ same_in cut [] ((view_at p v).shards) j lj
 
 -- as many zeros as bases
 pub zero_lens : (fs : List FrontView) (bs : List ℕ) (i : ℕ) → map (λ (f : FrontView). f.base) fs ≡ take i bs → map (λ (f : FrontView). f.len) fs ≡ replicate i 0 → length bs ≤ i → map (λ (f : FrontView). f.len) fs ≡ replicate (length bs) 0

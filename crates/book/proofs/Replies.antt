@@ -4,13 +4,13 @@ use Rattle.std.proofs.lemmas.List.Concat.{flat_map-append}
 use Rattle.std.proofs.lemmas.Bool.Decides.{nat_tests}
 use mathlib.Core.List.{IsPrefix}
 use Rattle.plan.specs.Layouts.{Layout}
-use Rattle.book.specs.Logs.{Change}
-use Rattle.book.specs.Histories.{Item, write, read, fence, Author, log_of, authors_of, entry_in, author_in}
+use Rattle.model.specs.Logs.{Change}
+use Rattle.model.specs.Histories.{Item, write, read, fence, Author, log_of, authors_of, entry_in, author_in}
 use Rattle.book.specs.Pages.{Page, history_of}
 use Rattle.book.specs.Fronts.{FrontView, IsFront, IsAppended}
-use Rattle.book.specs.Legal.{IsLegal}
+use Rattle.model.specs.Legal.{IsLegal}
 use Rattle.book.specs.Replies.{IsWritten, IsAfter, longer}
-use Rattle.book.proofs.Prefixes.{prefix_get, prefix_whole, prefix_length, prefix_self}
+use Rattle.model.proofs.Prefixes.{prefix_get, prefix_whole, prefix_length, prefix_self}
 use Rattle.book.proofs.Steps.{rest_of}
 use Rattle.book.proofs.Fronts.{length_authors}
 

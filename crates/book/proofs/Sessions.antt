@@ -7,15 +7,17 @@ use Rattle.row.specs.Cells.{Datum, Cells, shard}
 use Rattle.row.specs.Bags.{Each}
 use Rattle.row.proofs.BagLemmas.{Each-weaker}
 use Rattle.plan.specs.Layouts.{Layout, view_at}
-use Rattle.book.specs.Queries.{answer}
+use Rattle.model.specs.Queries.{answer}
 use Rattle.book.specs.Words.{word_of, count_at}
-use Rattle.book.specs.Cuts.{fronts_of, IsWithin, IsAtMost}
-use Rattle.book.specs.Legal.{IsPast, IsOwn, EachShard, AllowsRead}
-use Rattle.book.specs.Histories.{Item, read, fence, Lengths, len_at, Floors, Place, floor_in, floor_of, floor_at, last_or}
+use Rattle.model.specs.Cuts.{fronts_of, IsWithin, IsAtMost}
+use Rattle.model.specs.Legal.{IsPast, IsOwn, EachShard, AllowsRead}
+use Rattle.model.specs.Histories.{Item, read, fence, Lengths, len_at, Floors, Place, floor_in, floor_of, floor_at, last_or}
 use Rattle.book.specs.Pages.{Page, adds, history_of, IsAdded, IsAsk}
-use Rattle.book.specs.Sessions.{SessionView, IsSame, own_word, own_items, IsTable, IsSession, IsAnswered, IsStolen, with_floor, AreWithin}
-use Rattle.book.proofs.Parts.{count_append, flat_later, floor_blind, IsBlind}
-use Rattle.book.proofs.Later.{within_later, fronts_later, floor_later, own_later}
+use Rattle.book.specs.Sessions.{SessionView, IsSame, own_word, own_items, IsSession, IsAnswered, IsStolen, AreWithin}
+use Rattle.model.specs.Tables.{IsTable, with_floor}
+use Rattle.book.proofs.Parts.{count_append, flat_later, floor_blind, IsBlind, flat_quiet}
+use Rattle.model.proofs.Growth.{within_later, fronts_later, own_later}
+use Rattle.book.proofs.Later.{floor_later}
 use Rattle.book.proofs.Steps.{rest_of, count_own}
 
 abbrev pub session_at : ℕ → ℕ → Floors → List Page → SessionView
@@ -215,3 +217,11 @@ fence_told p n v w s a floors cuts own word at x table told =
       least = omega (arith, count_added p (own_word p s) (history_of v) (history_of w) (fence s own cuts) refl ad.1, ad.0);
       floors = λ is i j li lj st b. ap (λ l. len_at l st b) (fence_floor p s own cuts (history_of v) (history_of w) i j ad.1);
     }
+
+pub zero_session : (p : Layout) (n : ℕ) (v : List Page) (s : ℕ) (floors : Floors) → s < n → IsTable p floors → ((k j : ℕ) → floor_at floors k j ≡ []) → IsSession p n (session_at s 0 floors v)
+zero_session p n v s floors lt table none = record {
+  range = lt;
+  table = table;
+  least = omega arith;
+  floors = λ is k j lk lj st b. ap (λ f. len_at f st b) (ap (last_or []) (flat_quiet p (own_word p s) (floor_in p s k j) (floor_blind p s k j) (history_of v) is) ∙ sym (none k j));
+}

@@ -7,13 +7,14 @@ use mathlib.Core.List.{IsPrefix}
 use prog.Atomic.{either}
 use Rattle.logbook.specs.Pages.{Cell, Act, keeps, no_nib, step, Moves, View, Valid, Runs, cells_after, nib_after}
 use Rattle.plan.specs.Layouts.{Layout}
-use Rattle.book.specs.Histories.{Item}
-use Rattle.book.specs.Places.{base_count}
+use Rattle.model.specs.Histories.{Item}
+use Rattle.model.specs.Places.{base_count}
 use Rattle.book.specs.Words.{word_of, count_at}
-use Rattle.book.specs.Legal.{Allows}
+use Rattle.model.specs.Legal.{Allows}
 use Rattle.book.specs.Pages.{Page, opens, adds, item_in, history_of, IsLogOf, IsKeptBy, IsKept, Looks, IsAdded, IsTry, Tries, IsAsk}
 use Rattle.book.proofs.Parts.{count_append}
-use Rattle.book.proofs.Later.{allows_later, legal_more}
+use Rattle.book.proofs.Later.{allows_later}
+use Rattle.model.proofs.Growth.{legal_more}
 
 pub history_more : (xs ys : List Page) → history_of (xs ++ ys) ≡ history_of xs ++ history_of ys
 history_more xs ys = flat_map-append item_in xs ys

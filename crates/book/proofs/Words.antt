@@ -18,9 +18,3 @@ word_step b n k d lt rest (inr e) =
 pub word_at : (b : Book) (n k : ℕ) (d : Named) → k < n → slice_index_or (words_of b n) k d ≡ word_named b k
 word_at b zero k d lt = absurd (omega arith)
 word_at b (suc n) k d lt = word_step b n k d lt (word_at b n k d) (elim (eqb_tells k n) as (λ _. (k ≡ n) ⊎ (k ≢ n)) [ inl s ↦ inl s.1 | inr s ↦ inr s.1 ])
-
--- what was read of a list, as a part of each element
-pub read_map : {A B : Type 0} (f : A → B) (l : List A) (i : ℕ) (x : A) (d : B) → i < length l → x ≡ slice_index_or l i x → f x ≡ slice_index_or (map f l) i d
-read_map f [] i x d lt is = absurd (omega arith)
-read_map f (y ∷ l) zero x d lt is = ap f is
-read_map f (y ∷ l) (suc i) x d lt is = read_map f l i x d (omega arith) is

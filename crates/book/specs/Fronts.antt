@@ -2,9 +2,9 @@
 use Rattle.std.specs.Prelude.{◌≡◌, ℕ, ◌+◌, ◌<◌, ◌≤◌, List, [], ◌∷◌, ◌++◌, length, take}
 use mathlib.Core.List.{IsPrefix}
 use Rattle.plan.specs.Layouts.{Layout}
-use Rattle.book.specs.Logs.{Change}
-use Rattle.book.specs.Places.{base_count}
-use Rattle.book.specs.Histories.{Item, write, Author, log_of, authors_of}
+use Rattle.model.specs.Logs.{Change}
+use Rattle.model.specs.Places.{base_count}
+use Rattle.model.specs.Histories.{Item, write, Author, log_of, authors_of}
 use Rattle.book.specs.Pages.{IsAdded}
 
 -- a base shard, how many entries of its log, and the history that was seen

@@ -1,12 +1,3 @@
-pub mod Logs
-pub mod Entries
-pub mod Places
-pub mod Queries
-pub mod Histories
-pub mod Printed
-pub mod Cuts
-pub mod Refusals
-pub mod Legal
 pub mod Words
 pub mod Pages
 pub mod Fronts

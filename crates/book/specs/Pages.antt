@@ -3,10 +3,10 @@ use Rattle.std.specs.Prelude.{◌≡◌, ℕ, zero, suc, ◌+◌, ◌<◌, ◌�
 use Rattle.logbook.specs.Pages.{Cell, Step, View, Book, Named}
 use Rattle.plan.specs.Layouts.{Layout}
 use Rattle.plan.specs.Recipes.{notes_plan}
-use Rattle.book.specs.Places.{base_count}
-use Rattle.book.specs.Histories.{Item}
+use Rattle.model.specs.Places.{base_count}
+use Rattle.model.specs.Histories.{Item}
 use Rattle.book.specs.Words.{word_of, count_at}
-use Rattle.book.specs.Legal.{Allows, IsLegal}
+use Rattle.model.specs.Legal.{Allows, IsLegal}
 
 -- what the log of the book holds: first the plan and the number of sessions, then items
 pub data Page : Type 0 where

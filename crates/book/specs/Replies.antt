@@ -1,7 +1,7 @@
 -- What a reply of a base shard says, and what a session knows from it.
 use Rattle.std.specs.Prelude.{◌≡◌, ℕ, nat_le, cond, List, ◌∷◌, ◌++◌, length, slice_get, Some}
-use Rattle.book.specs.Logs.{Change}
-use Rattle.book.specs.Histories.{Item, log_of, authors_of}
+use Rattle.model.specs.Logs.{Change}
+use Rattle.model.specs.Histories.{Item, log_of, authors_of}
 use Rattle.book.specs.Fronts.{FrontView}
 
 -- an accepted write: its entry stands at this place of the log

@@ -2,14 +2,15 @@
 use Rattle.std.specs.Prelude.{◌≡◌, ℕ, ◌+◌, ◌<◌, ◌≤◌, List, [], map, length, replicate, slice_index_or, slice_set}
 use mathlib.Core.List.{IsPrefix}
 use Rattle.plan.specs.Layouts.{ViewLayout, Layout, view_at}
-use Rattle.book.specs.Logs.{Change}
-use Rattle.book.specs.Places.{base_count}
-use Rattle.book.specs.Queries.{Line}
-use Rattle.book.specs.Histories.{Item, Lengths, len_at, Floors, floor_at, floor_of, Place as PlaceView}
-use Rattle.book.specs.Cuts.{fronts_of, IsWithin}
+use Rattle.model.specs.Logs.{Change}
+use Rattle.model.specs.Places.{base_count}
+use Rattle.model.specs.Queries.{Line}
+use Rattle.model.specs.Histories.{Item, Lengths, len_at, Floors, floor_at, floor_of, Place as PlaceView}
+use Rattle.model.specs.Cuts.{fronts_of, IsWithin}
 use Rattle.book.specs.Words.{count_at}
 use Rattle.book.specs.Pages.{IsAdded}
-use Rattle.book.specs.declared.cut.Place.{Place}
+use Rattle.model.specs.declared.place.Place.{Place}
+use Rattle.model.specs.Tables.{IsTable}
 
 -- a cut, and the history that was seen with it
 pub record CutView : Type 0 where
@@ -43,11 +44,6 @@ own_word p session = base_count p + session
 abbrev pub own_items : Layout → ℕ → List Item → ℕ
 own_items p session h = count_at p (own_word p session) h
 
--- a table of floors has a place for each shard of each view
-pub record IsTable (p : Layout) (floors : Floors) : Type 0 where
-  pub views : length floors ≡ length p.views
-  pub shards : (v : ℕ) → v < length p.views → length (slice_index_or floors v []) ≡ (view_at p v).shards
-
 -- the session has answered so often. Where nobody has moved its word, its floors are those of the history
 pub record IsSession (p : Layout) (n : ℕ) (x : SessionView) : Type 0 where
   pub range : x.session < n
@@ -70,26 +66,7 @@ pub record IsStolen (p : Layout) (x y : SessionView) : Type 0 where
   pub grown : IsPrefix x.seen y.seen
   pub more : y.answered < own_items p y.session y.seen
 
--- the floors after a read of shard j of view v
-abbrev pub with_floor : Floors → ℕ → ℕ → Lengths → Floors
-with_floor floors v j cut = slice_set floors v (slice_set (slice_index_or floors v []) j cut)
-
 -- the floors are cuts within the history
 pub record AreWithin (p : Layout) (x : FloorsView) : Type 0 where
   pub table : IsTable p x.floors
   pub within : (v j : ℕ) → v < length p.views → j < (view_at p v).shards → IsWithin p x.seen (floor_at x.floors v j)
-
--- one length, and one front, set
-abbrev pub with_length : Lengths → ℕ → ℕ → ℕ → Lengths
-with_length cut s b n = slice_set cut s (slice_set (slice_index_or cut s []) b n)
-
-abbrev pub with_front : List Line → ℕ → ℕ → List Change → List Line
-with_front fs s b es = slice_set fs s (slice_set (slice_index_or fs s []) b es)
-
--- the same line of lengths for each stage shard, at each shard of each view
-abbrev pub even_floors : Layout → List ℕ → Floors
-even_floors p line = map (λ (v : ViewLayout). replicate v.shards (replicate p.stages line)) p.views
-
--- the program's places as those of the definitions
-abbrev pub places_of : List Place → List PlaceView
-places_of own = map (λ (x : Place). record { base = x.base; index = x.index }) own

@@ -2,11 +2,11 @@
 ghost use Rattle.std.specs.Prelude.{◌≡◌, ◌+◌, ◌<◌, ◌≤◌, [], IfOk, map, slice_index_or};
 ghost use Rattle.crossbeam_utils.specs.Padded.{padded_value};
 ghost use Rattle.book.specs.Pages.{words_of, word_named};
-ghost use Rattle.book.specs.Places.{base_count};
+ghost use Rattle.model.specs.Places.{base_count};
 
 use crate::front::Front;
 use crate::law::{Law, LogPage, Naming};
-use crate::places::base_count;
+use model::places::base_count;
 use crossbeam_utils::CachePadded;
 use logbook::{Opening, Pens, Seen, Start, Word};
 use plan::plan::Plan;
@@ -19,7 +19,7 @@ struct First;
 impl Opening<Plan, LogPage> for First {
     ghost use Rattle.std.specs.Prelude.{◌-◌, [], ◌∷◌};
     ghost use Rattle.book.specs.Pages.{opens};
-    ghost use Rattle.book.specs.Places.{base_count};
+    ghost use Rattle.model.specs.Places.{base_count};
 
     ghost log = { λ count plan. opens plan (count - base_count plan) ∷ [] };
 }
@@ -37,7 +37,7 @@ impl Model for Opened {
     ghost use Rattle.std.specs.Prelude.{◌≡◌, ◌+◌, ◌<◌, [], ◌∷◌, map};
     ghost use Rattle.crossbeam_utils.specs.Padded.{padded_value};
     ghost use Rattle.book.specs.Pages.{Opened as OpenedView, opens, plan_on, words_of};
-    ghost use Rattle.book.specs.Places.{base_count};
+    ghost use Rattle.model.specs.Places.{base_count};
 
     ghost Value = { OpenedView };
 
@@ -60,7 +60,7 @@ impl<J: Naming> Model for Book<J> {
     ghost use Rattle.std.specs.Prelude.{◌≡◌, ◌+◌, ◌<◌, ℕ, map};
     ghost use Rattle.crossbeam_utils.specs.Padded.{padded_value};
     ghost use Rattle.book.specs.Pages.{words_of};
-    ghost use Rattle.book.specs.Places.{base_count};
+    ghost use Rattle.model.specs.Places.{base_count};
 
     ghost Value = { ℕ };
 

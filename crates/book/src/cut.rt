@@ -2,38 +2,25 @@
 ghost use Rattle.std.specs.Prelude.{◌≡◌, ◌≢◌, ◌<◌, ◌≤◌, [], IsTrue, IsFalse, length, map, replicate, slice_index_or, slice_set, take, IfOk};
 ghost use mathlib.Core.List.{IsPrefix};
 ghost use Rattle.row.specs.Bags.{Each};
-ghost use Rattle.book.specs.Histories.{len_at};
+ghost use Rattle.model.specs.Histories.{len_at};
 ghost use Rattle.book.specs.Fronts.{FrontView, IsReached, entries};
 ghost use Rattle.book.specs.Pages.{IsLogOf, history_of};
-ghost use Rattle.book.specs.Cuts.{IsWithin};
-ghost use Rattle.book.specs.Places.{base_count, sources as sources_of, source_at};
-ghost use Rattle.book.specs.Sessions.{fronts, with_length, with_front, even_floors};
+ghost use Rattle.model.specs.Cuts.{IsWithin};
+ghost use Rattle.model.specs.Places.{base_count, sources as sources_of, source_at};
+ghost use Rattle.book.specs.Sessions.{fronts};
+ghost use Rattle.model.specs.Tables.{with_length, with_front, even_floors};
 
-use crate::floors::Floors;
+use model::floors::Floors;
 use crate::front::Front;
 use crate::law::{Law, LogPage, Naming};
 use crate::part::Part;
-use crate::places::sources;
+use model::places::sources;
 use crate::step::learn;
 use logbook::Seen;
+use model::lengths::Lengths;
 use plan::plan::Plan;
 use std::alloc::{AllocError, Global};
 use std::marker::{Model, PhantomData};
-
-/// A length for each stage shard and each source.
-#[derive(Drop)]
-pub struct Lengths {
-    pub(crate) lines: Vec<Vec<u64>>,
-}
-
-impl Model for Lengths {
-    ghost use Rattle.std.specs.Prelude.{map};
-    ghost use Rattle.book.specs.Histories.{Lengths as LengthsView};
-
-    ghost Value = { LengthsView };
-
-    ghost view = { λ c. map (λ l. l.items) c.lines.items };
-}
 
 /// A cut, and a history in which its lengths were reached. So it stands for the fronts that it
 /// names.
@@ -46,7 +33,7 @@ pub struct Cut<J: Naming> {
 
 impl<J: Naming> Model for Cut<J> {
     ghost use Rattle.std.specs.Prelude.{◌≡◌};
-    ghost use Rattle.book.specs.Cuts.{IsWithin};
+    ghost use Rattle.model.specs.Cuts.{IsWithin};
     ghost use Rattle.book.specs.Pages.{IsLogOf, history_of};
     ghost use Rattle.book.specs.Sessions.{CutView};
 
@@ -75,78 +62,6 @@ impl<J: Naming> Model for Cuts<J> {
     ghost view = { λ c. record { floors = c.floors; seen = history_of c.seen.log } };
 
     ghost invariant = { λ c. (c.seen.book ≡ J.book) × IsLogOf J.plan J.sessions c.seen.log × AreWithin J.plan (record { floors = c.floors; seen = history_of c.seen.log }) };
-}
-
-/// A place of a log.
-#[derive(Clone, Copy)]
-pub struct Place {
-    pub base: usize,
-    pub index: u64,
-}
-
-impl Lengths {
-    /// No lengths, which are all zeros.
-    pub fn empty(alloc: Global) -> Lengths
-        ensures { result ≡ [] }
-    {
-        Lengths {
-            lines: Vec::new(alloc),
-        }
-    }
-
-    /// The same lengths of the sources for each of so many stage shards. Refused for want of
-    /// memory alone.
-    pub fn even(alloc: Global, stages: usize, line: &[u64]) -> Result<Lengths, AllocError>
-        ensures { IfOk result (λ c. c ≡ replicate stages line.now) }
-    {
-        let mut lines = Vec::new(alloc);
-        for _stage in 0..stages {
-            lines.push(Vec::from_slice(alloc, line)?)?;
-        }
-        Ok(Lengths { lines })
-    }
-
-    /// The same lengths in memory of their own. Refused for want of memory alone.
-    pub fn again(&self, alloc: Global) -> Result<Lengths, AllocError>
-        ensures { IfOk result (λ c. c ≡ self.now) }
-    {
-        let mut lines = Vec::new(alloc);
-        for line in &self.lines {
-            lines.push(Vec::from_slice(alloc, line.as_slice())?)?;
-        }
-        Ok(Lengths { lines })
-    }
-
-    /// The length of a source at a stage shard, 0 where there is none.
-    pub fn len(&self, stage: usize, source: usize) -> u64
-        ensures { result ≡ len_at self.now stage source }
-    {
-        let Some(line) = self.lines.get(stage) else {
-            return 0;
-        };
-        match line.get(source) {
-            Some(len) => *len,
-            None => 0,
-        }
-    }
-
-    /// Whether the two cuts have the same lengths.
-    pub fn is_same(&self, other: &Lengths) -> bool
-        ensures same { IsTrue result → self.now ≡ other.now }
-        ensures other { IsFalse result → self.now ≢ other.now }
-    {
-        self.lines == other.lines
-    }
-
-    /// Sets one length.
-    pub fn set(&mut self, stage: usize, source: usize, len: u64)
-        requires stage { stage < length self.old }
-        requires source { source < length (slice_index_or self.old stage []) }
-        ensures { self.new ≡ with_length self.old stage source len }
-    {
-        let line = &mut self.lines[stage];
-        line[source] = len;
-    }
 }
 
 impl<J: Naming> Cuts<J> {

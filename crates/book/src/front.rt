@@ -3,16 +3,16 @@ ghost use Rattle.std.specs.Prelude.{◌≡◌, ℕ, ◌+◌, ◌<◌, ◌≤◌,
 ghost use mathlib.Core.List.{IsPrefix};
 ghost use Rattle.row.specs.Bags.{Each};
 ghost use Rattle.row.specs.Cells.{shard};
-ghost use Rattle.book.specs.Entries.{change_of};
+ghost use Rattle.model.specs.Entries.{change_of};
 ghost use Rattle.book.specs.Fronts.{FrontView, entries, authors, IsAppended, IsMoved};
-ghost use Rattle.book.specs.Histories.{Author, log_of};
-ghost use Rattle.book.specs.Legal.{limit, IsLegal};
-ghost use Rattle.book.specs.Logs.{fits, key_of, lawful};
+ghost use Rattle.model.specs.Histories.{Author, log_of};
+ghost use Rattle.model.specs.Legal.{limit, IsLegal};
+ghost use Rattle.model.specs.Logs.{fits, key_of, lawful};
 ghost use Rattle.book.specs.Pages.{opens, IsLogOf, history_of};
-ghost use Rattle.book.specs.Places.{base_count, layout_of, shard_of};
+ghost use Rattle.model.specs.Places.{base_count, layout_of, shard_of};
 
 use crate::book::Book;
-use crate::entry::Entry;
+use model::entry::Entry;
 use crate::law::{Add, Law, LogPage, Naming};
 use crate::part::Part;
 use crate::step::{learn, look_at, try_add};
@@ -51,9 +51,9 @@ pub struct Writing<'a> {
 
 impl<'a> Plain<Writing<'a>, LogPage, u64> for Add {
     ghost use Rattle.std.specs.Prelude.{None};
-    ghost use Rattle.book.specs.Histories.{write};
+    ghost use Rattle.model.specs.Histories.{write};
     ghost use Rattle.book.specs.Pages.{adds};
-    ghost use Rattle.book.specs.Entries.{change_of};
+    ghost use Rattle.model.specs.Entries.{change_of};
 
     ghost ask = { λ w. adds (write w.session w.number w.base (change_of w.entry.now)) };
 

@@ -8,7 +8,7 @@ pub struct LogPage {}
 
 impl Model for LogPage {
     ghost use Rattle.book.specs.Pages.{Page};
-    ghost use Rattle.book.specs.Histories.{fence};
+    ghost use Rattle.model.specs.Histories.{fence};
     ghost use Rattle.book.specs.Pages.{adds};
     ghost use Rattle.std.specs.Prelude.{[]};
 
@@ -91,7 +91,7 @@ impl Naming for Brand {
 /// A look asks for nothing, and its step reads no item.
 impl Plain<(), LogPage, u64> for Look {
     ghost use Rattle.std.specs.Prelude.{None, []};
-    ghost use Rattle.book.specs.Histories.{fence};
+    ghost use Rattle.model.specs.Histories.{fence};
     ghost use Rattle.book.specs.Pages.{adds};
 
     ghost ask = { λ _. adds (fence 0 [] []) };

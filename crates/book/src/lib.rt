@@ -1,15 +1,11 @@
-//! The history: entries, logs, cuts, and what is legal.
+//! The words that threads share, and what each that holds one knows of the history.
 #![tactic(auto)]
 
 pub mod book;
 pub mod cut;
-mod display;
-pub mod entry;
-pub mod floors;
 pub mod front;
 pub mod law;
 pub mod part;
-pub mod places;
 pub mod reply;
 pub mod session;
 mod step;

@@ -1,9 +1,9 @@
 //! What a caller has seen.
 ghost use Rattle.std.specs.Prelude.{◌≡◌, ◌<◌, ◌⊎◌};
 ghost use mathlib.Core.List.{IsPrefix};
-ghost use Rattle.book.specs.Legal.{IsLegal};
+ghost use Rattle.model.specs.Legal.{IsLegal};
 ghost use Rattle.book.specs.Pages.{IsLogOf, history_of};
-ghost use Rattle.book.specs.Places.{base_count};
+ghost use Rattle.model.specs.Places.{base_count};
 
 use crate::front::Front;
 use crate::law::{Law, LogPage, Naming};
@@ -22,7 +22,7 @@ pub struct Part<J: Naming> {
 impl<J: Naming> Model for Part<J> {
     ghost use Rattle.std.specs.Prelude.{◌≡◌, ◌⊎◌, List};
     ghost use mathlib.Core.List.{IsPrefix};
-    ghost use Rattle.book.specs.Histories.{Item};
+    ghost use Rattle.model.specs.Histories.{Item};
     ghost use Rattle.book.specs.Pages.{IsLogOf, history_of};
     ghost use Rattle.book.specs.Replies.{longer};
 

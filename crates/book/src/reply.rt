@@ -3,16 +3,16 @@ ghost use Rattle.std.specs.Prelude.{◌≡◌, ◌+◌, ◌<◌, ◌≤◌, leng
 ghost use mathlib.Core.List.{IsPrefix};
 ghost use Rattle.row.specs.Bags.{Each};
 ghost use Rattle.row.specs.Cells.{shard};
-ghost use Rattle.book.specs.Entries.{change_of};
+ghost use Rattle.model.specs.Entries.{change_of};
 ghost use Rattle.book.specs.Fronts.{IsAppended, IsMoved, entries, authors};
-ghost use Rattle.book.specs.Histories.{Author, log_of, authors_of, write};
-ghost use Rattle.book.specs.Legal.{limit};
-ghost use Rattle.book.specs.Logs.{fits, key_of, lawful};
-ghost use Rattle.book.specs.Places.{layout_of, shard_of};
+ghost use Rattle.model.specs.Histories.{Author, log_of, authors_of, write};
+ghost use Rattle.model.specs.Legal.{limit};
+ghost use Rattle.model.specs.Logs.{fits, key_of, lawful};
+ghost use Rattle.model.specs.Places.{layout_of, shard_of};
 ghost use Rattle.book.specs.Replies.{WrittenView, IsAfter, IsWhole, longer};
 
 use crate::book::Book;
-use crate::entry::Entry;
+use model::entry::Entry;
 use crate::front::Front;
 use crate::law::{Law, LogPage, Naming};
 use crate::part::Part;
@@ -35,7 +35,7 @@ pub struct Written<J: Naming> {
 impl<J: Naming> Model for Written<J> {
     ghost use Rattle.std.specs.Prelude.{◌≡◌};
     ghost use Rattle.book.specs.Pages.{IsLogOf, history_of};
-    ghost use Rattle.book.specs.Entries.{change_of};
+    ghost use Rattle.model.specs.Entries.{change_of};
     ghost use Rattle.book.specs.Replies.{WrittenView, IsWritten};
 
     ghost Value = { WrittenView };

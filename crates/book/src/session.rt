@@ -4,15 +4,18 @@ ghost use mathlib.Core.List.{IsPrefix};
 ghost use Rattle.row.specs.Bags.{Each};
 ghost use Rattle.row.specs.Cells.{datum_of};
 ghost use Rattle.plan.specs.Layouts.{view_at};
-ghost use Rattle.book.specs.Cuts.{IsAtMost};
-ghost use Rattle.book.specs.Histories.{floor_at, read, fence, view_shard};
-ghost use Rattle.book.specs.Legal.{IsOwn, IsPast, IsLegal, EachShard};
-ghost use Rattle.book.specs.Queries.{answer as answer_of};
-ghost use Rattle.book.specs.Sessions.{fronts, with_floor, places_of, IsAnswered, IsStolen};
+ghost use Rattle.model.specs.Cuts.{IsAtMost};
+ghost use Rattle.model.specs.Histories.{floor_at, read, fence, view_shard};
+ghost use Rattle.model.specs.Legal.{IsOwn, IsPast, IsLegal, EachShard};
+ghost use Rattle.model.specs.Queries.{answer as answer_of};
+ghost use Rattle.book.specs.Sessions.{fronts, IsAnswered, IsStolen};
+ghost use Rattle.model.specs.Tables.{with_floor, places_of};
 
 use crate::book::Book;
-use crate::cut::{Cut, Cuts, Lengths, Place};
-use crate::floors::Floors;
+use crate::cut::{Cut, Cuts};
+use model::lengths::Lengths;
+use model::place::Place;
+use model::floors::Floors;
 use crate::front::Front;
 use crate::law::{Add, Law, LogPage, Naming};
 use crate::part::Part;
@@ -58,7 +61,7 @@ pub struct Reading<'a> {
 
 impl<'a> Plain<Reading<'a>, LogPage, u64> for Add {
     ghost use Rattle.std.specs.Prelude.{None};
-    ghost use Rattle.book.specs.Histories.{read};
+    ghost use Rattle.model.specs.Histories.{read};
     ghost use Rattle.book.specs.Pages.{adds};
     ghost use Rattle.row.specs.Cells.{datum_of};
 
@@ -77,9 +80,9 @@ pub struct Fencing<'a> {
 
 impl<'a> Plain<Fencing<'a>, LogPage, u64> for Add {
     ghost use Rattle.std.specs.Prelude.{None};
-    ghost use Rattle.book.specs.Histories.{fence};
+    ghost use Rattle.model.specs.Histories.{fence};
     ghost use Rattle.book.specs.Pages.{adds};
-    ghost use Rattle.book.specs.Sessions.{places_of};
+    ghost use Rattle.model.specs.Tables.{places_of};
 
     ghost ask = { λ f. adds (fence f.session (places_of f.own.now.items) f.floors.now) };
 

@@ -2,7 +2,7 @@
 ghost use Rattle.std.specs.Prelude.{◌≡◌, ◌+◌, ◌<◌, ◌≤◌, ◌^◌, None};
 ghost use mathlib.Core.List.{IsPrefix};
 ghost use Rattle.book.specs.Pages.{IsLogOf, IsAsk, IsTry, history_of};
-ghost use Rattle.book.specs.Places.{base_count};
+ghost use Rattle.model.specs.Places.{base_count};
 ghost use Rattle.book.specs.Words.{count_at};
 
 use crate::book::Book;

@@ -2,11 +2,12 @@
 ghost use Rattle.std.specs.Prelude.{◌≡◌, ℕ, [], ◌∷◌, IfOk, codes, pos};
 ghost use Rattle.row.specs.Cells.{int, text};
 ghost use Rattle.plan.specs.Recipes.{notes_plan};
-ghost use Rattle.book.specs.Histories.{floor_at};
+ghost use Rattle.model.specs.Histories.{floor_at};
 
 use crate::book::{Book, Opened};
-use crate::cut::{Cut, Lengths};
-use crate::entry::Entry;
+use crate::cut::Cut;
+use model::lengths::Lengths;
+use model::entry::Entry;
 use crate::front::Front;
 use crate::law::Naming;
 use crate::session::SessionWord;

@@ -8,14 +8,14 @@ use Rattle.row.proofs.BagLemmas.{Each-weaker}
 use Rattle.row.specs.declared.refused.Refused.{Refused}
 use Rattle.row.specs.declared.refused.Refused.TheVariants.{NoMemory}
 use Rattle.plan.specs.Layouts.{Layout}
-use Rattle.book.specs.Logs.{Change}
-use Rattle.book.specs.Places.{layout_of}
-use Rattle.book.specs.Histories.{Author, log_of, authors_of}
-use Rattle.book.specs.Refusals.{refusal, refusal_over}
-use Rattle.book.specs.Legal.{limit}
+use Rattle.model.specs.Logs.{Change}
+use Rattle.model.specs.Places.{layout_of}
+use Rattle.model.specs.Histories.{Author, log_of, authors_of}
+use Rattle.model.specs.Refusals.{refusal, refusal_over}
+use Rattle.model.specs.Legal.{limit}
 use Rattle.book.specs.Fronts.{FrontView, entries, authors, IsAppended}
 use Rattle.book.proofs.Fronts.{length_authors}
-use Rattle.book.proofs.Lines.{each_push}
+use Rattle.model.proofs.Lists.{each_push}
 use Rattle.base.specs.Shards.{Shard, IsAt, verdict}
 use Rattle.base.proofs.Fronts as stands
 use Rattle.domain.specs.Messages.{WriteView, DeclinedView, IsDecided}

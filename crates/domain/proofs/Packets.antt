@@ -4,8 +4,8 @@ use Rattle.std.proofs.lemmas.List.{take-append-le, take_all}
 use Rattle.row.specs.Changes.{Turns}
 use Rattle.row.specs.declared.record.Record.{Record}
 use Rattle.plan.specs.Layouts.{Layout}
-use Rattle.book.specs.Logs.{Change, rows_of}
-use Rattle.book.specs.Places.{layout_of}
+use Rattle.model.specs.Logs.{Change, rows_of}
+use Rattle.model.specs.Places.{layout_of}
 use Rattle.book.specs.Fronts.{FrontView, entries, IsAppended}
 use Rattle.base.specs.Records.{records_of}
 use Rattle.domain.specs.Packets.{PacketView, IsTruePacket}

@@ -5,12 +5,12 @@ use Rattle.row.specs.Changes.{Turns}
 use Rattle.row.specs.declared.refused.Refused.{Refused}
 use Rattle.row.specs.declared.refused.Refused.TheVariants.{NoMemory, Stopped}
 use Rattle.plan.specs.Layouts.{Layout}
-use Rattle.book.specs.Logs.{Change, rows_of}
-use Rattle.book.specs.Places.{layout_of}
-use Rattle.book.specs.Histories.{Author}
-use Rattle.book.specs.Legal.{limit}
+use Rattle.model.specs.Logs.{Change, rows_of}
+use Rattle.model.specs.Places.{layout_of}
+use Rattle.model.specs.Histories.{Author}
+use Rattle.model.specs.Legal.{limit}
 use Rattle.book.specs.Fronts.{FrontView, entries, authors, IsAppended, IsMoved}
-use Rattle.book.specs.Refusals.{refusal}
+use Rattle.model.specs.Refusals.{refusal}
 use Rattle.book.specs.Replies.{WrittenView}
 use Rattle.base.specs.Shards.{Shard, IsAt}
 use Rattle.base.specs.Records.{records_of}

@@ -5,11 +5,11 @@ use Rattle.row.specs.Cells.{shard}
 use Rattle.row.specs.declared.refused.Refused.{Refused}
 use Rattle.row.specs.declared.refused.Refused.TheVariants.{NoMemory, Stopped}
 use Rattle.plan.specs.Layouts.{Layout}
-use Rattle.book.specs.Logs.{Change, fits, key_of}
-use Rattle.book.specs.Places.{base_count, layout_of, shard_of}
-use Rattle.book.specs.Histories.{Author, log_of, authors_of}
-use Rattle.book.specs.Refusals.{refusal}
-use Rattle.book.specs.Legal.{limit}
+use Rattle.model.specs.Logs.{Change, fits, key_of}
+use Rattle.model.specs.Places.{base_count, layout_of, shard_of}
+use Rattle.model.specs.Histories.{Author, log_of, authors_of}
+use Rattle.model.specs.Refusals.{refusal}
+use Rattle.model.specs.Legal.{limit}
 use Rattle.book.specs.Fronts.{FrontView}
 use Rattle.book.specs.Replies.{IsWhole}
 use Rattle.base.specs.Shards.{HasKey}

@@ -3,8 +3,8 @@ use Rattle.std.specs.Prelude.{ℕ, ◌≤◌, List, take}
 use Rattle.row.specs.Changes.{Turns}
 use Rattle.row.specs.declared.record.Record.{Record}
 use Rattle.plan.specs.Layouts.{Layout}
-use Rattle.book.specs.Logs.{rows_of}
-use Rattle.book.specs.Places.{layout_of}
+use Rattle.model.specs.Logs.{rows_of}
+use Rattle.model.specs.Places.{layout_of}
 use Rattle.book.specs.Fronts.{FrontView, entries}
 
 -- from so many entries of the log to a front, and the changes between them

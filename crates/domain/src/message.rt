@@ -1,13 +1,13 @@
 //! What a base shard is sent, and what it answers.
 ghost use Rattle.std.specs.Prelude.{◌≡◌, ◌<◌, true, IsTrue};
 ghost use Rattle.row.specs.Cells.{shard};
-ghost use Rattle.book.specs.Entries.{change_of};
-ghost use Rattle.book.specs.Logs.{fits, key_of};
-ghost use Rattle.book.specs.Places.{base_count, layout_of, shard_of};
+ghost use Rattle.model.specs.Entries.{change_of};
+ghost use Rattle.model.specs.Logs.{fits, key_of};
+ghost use Rattle.model.specs.Places.{base_count, layout_of, shard_of};
 ghost use Rattle.base.specs.Shards.{HasKey};
 ghost use Rattle.domain.specs.Messages.{IsAnswered, last_number};
 
-use book::entry::Entry;
+use model::entry::Entry;
 use book::front::Front;
 use book::law::Naming;
 use book::reply::Written;
@@ -25,7 +25,7 @@ pub struct Write<J: Naming> {
 }
 
 impl<J: Naming> Model for Write<J> {
-    ghost use Rattle.book.specs.Entries.{change_of};
+    ghost use Rattle.model.specs.Entries.{change_of};
     ghost use Rattle.domain.specs.Messages.{WriteView, IsWrite};
 
     ghost Value = { WriteView };
@@ -46,7 +46,7 @@ pub struct Declined<J: Naming> {
 }
 
 impl<J: Naming> Model for Declined<J> {
-    ghost use Rattle.book.specs.Entries.{change_of};
+    ghost use Rattle.model.specs.Entries.{change_of};
     ghost use Rattle.domain.specs.Messages.{DeclinedView, IsAnswered};
 
     ghost Value = { DeclinedView };

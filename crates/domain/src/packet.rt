@@ -1,6 +1,6 @@
 //! What a base shard sends on of an accepted entry.
 ghost use Rattle.std.specs.Prelude.{◌≡◌, ◌<◌};
-ghost use Rattle.book.specs.Places.{base_count};
+ghost use Rattle.model.specs.Places.{base_count};
 ghost use Rattle.domain.specs.Packets.{IsTruePacket};
 
 use book::front::Front;

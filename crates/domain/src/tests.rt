@@ -8,7 +8,7 @@ use crate::base_domain::{BaseDomain, Outcome};
 use crate::message::Write;
 use crate::packet::BasePacket;
 use book::book::{Book, Opened};
-use book::entry::Entry;
+use model::entry::Entry;
 use book::law::Naming;
 use plan::plan::Plan;
 use row::record::Sign;

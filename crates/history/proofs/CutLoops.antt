@@ -3,11 +3,11 @@ use Rattle.std.proofs.Common.{◌≡◌, ℕ, zero, suc, ◌+◌, ◌<◌, ◌�
 use Rattle.std.proofs.lemmas.List.{take_more}
 use Rattle.row.specs.Bags.{Each}
 use Rattle.plan.specs.Layouts.{Layout}
-use Rattle.book.specs.Places.{sources, source_at}
-use Rattle.book.specs.Logs.{Change}
-use Rattle.book.specs.Queries.{Line}
-use Rattle.book.specs.Histories.{Item, Lengths, len_at, log_of}
-use Rattle.book.specs.Cuts.{IsAtMost, line_of, fronts_of, IsWithin}
+use Rattle.model.specs.Places.{sources, source_at}
+use Rattle.model.specs.Logs.{Change}
+use Rattle.model.specs.Queries.{Line}
+use Rattle.model.specs.Histories.{Item, Lengths, len_at, log_of}
+use Rattle.model.specs.Cuts.{IsAtMost, line_of, fronts_of, IsWithin}
 use Rattle.history.specs.Tells.{IsLineWithin}
 use Rattle.history.proofs.Eaches.{each_at, each_of, past_end, any_end, below_or_not}
 

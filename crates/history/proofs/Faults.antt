@@ -9,9 +9,9 @@ use Rattle.row.specs.Cells.{Cells, row_cmp}
 use Rattle.row.specs.Bags.{Each}
 use Rattle.row.specs.CellOrder.{row_same, row_equivalence}
 use Rattle.plan.specs.Layouts.{Layout}
-use Rattle.book.specs.Histories.{Item as HistoryItem, write, read, fence}
-use Rattle.book.specs.Legal.{Allows, IsLegalAfter, IsLegal}
-use Rattle.book.proofs.HistoryLaws.{legal_more}
+use Rattle.model.specs.Histories.{Item as HistoryItem, write, read, fence}
+use Rattle.model.specs.Legal.{Allows, IsLegalAfter, IsLegal}
+use Rattle.model.proofs.Growth.{legal_more}
 use Rattle.history.specs.Items.{item_of, history_of}
 use Rattle.history.specs.Tells.{Tells}
 use Rattle.history.specs.Verdicts.{WriteNeeds, write_faults, ReadNeeds, read_faults, FenceNeeds, fence_faults, IsFirst, IsFault, IsIllegal}

@@ -6,13 +6,13 @@ use Rattle.std.proofs.lemmas.List.FromFn.{length-range_with_len, get_or-range_wi
 use Rattle.row.specs.Bags.{Each}
 use Rattle.plan.specs.Layouts.{TableLayout, SideLayout, Layout, table_at}
 use Rattle.plan.specs.Profile.{IfThere, IsRight, IsPlan}
-use Rattle.book.specs.Logs.{fits}
-use Rattle.book.specs.Places.{base_at, layout_of, side_count, side_bases, right_bases, sources}
-use Rattle.book.specs.Queries.{Line}
-use Rattle.book.specs.Histories.{Item, write, read, fence, Lengths, entry_in, log_of}
-use Rattle.book.specs.Cuts.{line_of, fronts_of}
-use Rattle.book.specs.Legal.{IsLegalAfter, IsLegal}
-use Rattle.book.proofs.PlaceLaws.{base_layout}
+use Rattle.model.specs.Logs.{fits}
+use Rattle.model.specs.Places.{base_at, layout_of, side_count, side_bases, right_bases, sources}
+use Rattle.model.specs.Queries.{Line}
+use Rattle.model.specs.Histories.{Item, write, read, fence, Lengths, entry_in, log_of}
+use Rattle.model.specs.Cuts.{line_of, fronts_of}
+use Rattle.model.specs.Legal.{IsLegalAfter, IsLegal}
+use Rattle.model.proofs.PlaceLaws.{base_layout}
 use Rattle.plain.specs.Fitting.{all_fit, right_fit, is_line}
 use Rattle.plain.proofs.Fits.{and_both, and_left, and_right, all_append}
 use Rattle.history.proofs.Eaches.{each_of}

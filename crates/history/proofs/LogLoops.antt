@@ -5,8 +5,8 @@ use Rattle.std.proofs.lemmas.List.Concat.{flat_map-append}
 use Rattle.std.proofs.lemmas.List.Folds.{flat_map-map}
 use Rattle.plain.proofs.Loops.{flat_more}
 use Rattle.plan.specs.Layouts.{Layout}
-use Rattle.book.specs.Logs.{Change}
-use Rattle.book.specs.Histories.{Lengths, entry_in, log_of, Author, author_in, authors_of, floor_in, floor_of, last_or}
+use Rattle.model.specs.Logs.{Change}
+use Rattle.model.specs.Histories.{Lengths, entry_in, log_of, Author, author_in, authors_of, floor_in, floor_of, last_or}
 use Rattle.history.specs.Items.{item_of, history_of}
 use Rattle.history.specs.declared.item.Item.{Item}
 

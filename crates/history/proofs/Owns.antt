@@ -2,8 +2,8 @@
 use Rattle.std.proofs.Common.{◌≡◌, ℕ, zero, suc, ◌==◌, ◌<◌, ◌≤◌, Bool, true, false, List, [], ◌∷◌, length, get_or, slice_get, Some, refl, arith, ap, ◌∙◌}
 use Rattle.std.proofs.lemmas.Bool.Decides.{nat_tests}
 use Rattle.plan.specs.Layouts.{Layout}
-use Rattle.book.specs.Histories.{Item, Author, Place, authors_of}
-use Rattle.book.specs.Legal.{IsOwn}
+use Rattle.model.specs.Histories.{Item, Author, Place, authors_of}
+use Rattle.model.specs.Legal.{IsOwn}
 use Rattle.history.specs.Tells.{Tells, IsSource}
 
 get_there : {X : Type 0} (xs : List X) (i : ℕ) (x : X) → i < length xs → x ≡ get_or xs i x → slice_get xs i ≡ Some x

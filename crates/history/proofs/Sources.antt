@@ -2,8 +2,8 @@
 use Rattle.std.proofs.Common.{◌≡◌, ℕ, ◌+◌, ◌-◌, ◌<◌, ◌≤◌, length, refl, ap, sym, subst, ◌∙◌, arith, Option, Some, None}
 use Rattle.plan.specs.Layouts.{SideLayout, Layout, no_table, table_at}
 use Rattle.plan.specs.Profile.{IfThere, IsTable, IsRight, IsPlan}
-use Rattle.book.specs.Places.{shards_before, base_count, base_at, table_of, shard_of, side_count, sources, source_at}
-use Rattle.book.proofs.PlaceLaws.{IsPlaced, placed, base_table, base_shard, base_range, source_right, source_count, source_count_left}
+use Rattle.model.specs.Places.{shards_before, base_count, base_at, table_of, shard_of, side_count, sources, source_at}
+use Rattle.model.proofs.PlaceLaws.{IsPlaced, placed, base_table, base_shard, base_range, source_right, source_count, source_count_left}
 use Rattle.history.proofs.Eaches.{each_at}
 
 -- base shard b is one of table t

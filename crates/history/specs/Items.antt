@@ -1,10 +1,10 @@
 -- The program's items as those of the definitions.
 use Rattle.std.specs.Prelude.{List, map}
 use Rattle.row.specs.Cells.{datum_of}
-use Rattle.book.specs.Entries.{change_of}
-use Rattle.book.specs.Sessions.{places_of}
-use Rattle.book.specs.declared.cut.Place.{Place}
-use Rattle.book.specs.Histories.{Item as HistoryItem, write, read, fence, Place as PlaceView}
+use Rattle.model.specs.Entries.{change_of}
+use Rattle.model.specs.Tables.{places_of}
+use Rattle.model.specs.declared.place.Place.{Place}
+use Rattle.model.specs.Histories.{Item as HistoryItem, write, read, fence, Place as PlaceView}
 use Rattle.history.specs.declared.item.Item.{Item}
 use Rattle.history.specs.declared.item.Item.TheVariants as code
 

@@ -1,8 +1,8 @@
 -- Tests, and what they tell.
 use Rattle.std.specs.Prelude.{◌≡◌, ℕ, ◌<◌, ◌≤◌, Bool, true, false, List, length, slice_index_or}
 use Rattle.plan.specs.Layouts.{Layout}
-use Rattle.book.specs.Places.{sources, source_at}
-use Rattle.book.specs.Histories.{Item, log_of}
+use Rattle.model.specs.Places.{sources, source_at}
+use Rattle.model.specs.Histories.{Item, log_of}
 
 -- the test says whether P holds
 abbrev pub Tells : Bool → Type 0 → Type 0

@@ -3,12 +3,12 @@ use Rattle.std.specs.Prelude.{◌≡◌, ℕ, ◌<◌, ◌⊎◌, true, List, []
 use Rattle.row.specs.Cells.{Datum, Cells, shard}
 use Rattle.row.specs.Bags.{Each}
 use Rattle.plan.specs.Layouts.{Layout}
-use Rattle.book.specs.Logs.{Change, key_of, fits, lawful}
-use Rattle.book.specs.Places.{base_count, layout_of, shard_of}
-use Rattle.book.specs.Queries.{answer}
-use Rattle.book.specs.Histories.{Item, write, read, fence, Lengths, Floors, floor_at, floor_of, Place, Author, log_of, authors_of, view_shard}
-use Rattle.book.specs.Cuts.{IsAtMost, fronts_of, IsWithin}
-use Rattle.book.specs.Legal.{limit, EachShard, IsPast, IsOwn, IsLegal}
+use Rattle.model.specs.Logs.{Change, key_of, fits, lawful}
+use Rattle.model.specs.Places.{base_count, layout_of, shard_of}
+use Rattle.model.specs.Queries.{answer}
+use Rattle.model.specs.Histories.{Item, write, read, fence, Lengths, Floors, floor_at, floor_of, Place, Author, log_of, authors_of, view_shard}
+use Rattle.model.specs.Cuts.{IsAtMost, fronts_of, IsWithin}
+use Rattle.model.specs.Legal.{limit, EachShard, IsPast, IsOwn, IsLegal}
 use Rattle.history.specs.declared.fault.WriteFault.{WriteFault}
 use Rattle.history.specs.declared.fault.WriteFault.TheVariants as w
 use Rattle.history.specs.declared.fault.ReadFault.{ReadFault}

@@ -1,6 +1,6 @@
 //! Cuts, and the floors of a session.
 ghost use Rattle.std.specs.Prelude.{◌≡◌, [], length, slice_index_or};
-ghost use Rattle.book.specs.Histories.{len_at, floor_at};
+ghost use Rattle.model.specs.Histories.{len_at, floor_at};
 
 use std::alloc::Global;
 use std::marker::Model;
@@ -52,7 +52,7 @@ pub struct Cut {
 }
 
 impl Model for Cut {
-    ghost use Rattle.book.specs.Histories.{Lengths};
+    ghost use Rattle.model.specs.Histories.{Lengths};
 
     ghost Value = { Lengths };
 
@@ -102,7 +102,7 @@ pub struct ViewFloors {
 
 impl Model for ViewFloors {
     ghost use Rattle.std.specs.Prelude.{List};
-    ghost use Rattle.book.specs.Histories.{Lengths};
+    ghost use Rattle.model.specs.Histories.{Lengths};
 
     ghost Value = { List Lengths };
 
@@ -135,7 +135,7 @@ pub struct Floors {
 }
 
 impl Model for Floors {
-    ghost use Rattle.book.specs.Histories.{Floors as FloorsView};
+    ghost use Rattle.model.specs.Histories.{Floors as FloorsView};
 
     ghost Value = { FloorsView };
 

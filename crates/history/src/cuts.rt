@@ -1,9 +1,9 @@
 //! Cuts over a history: whether they are within its logs, how two of them stand, and the fronts
 //! that they name.
 ghost use Rattle.std.specs.Prelude.{◌≡◌, ◌≤◌, ℕ, slice_index_or, IfOk};
-ghost use Rattle.book.specs.Cuts.{IsAtMost, line_of, fronts_of, IsWithin};
-ghost use Rattle.book.specs.Histories.{len_at};
-ghost use Rattle.book.specs.Places.{sources};
+ghost use Rattle.model.specs.Cuts.{IsAtMost, line_of, fronts_of, IsWithin};
+ghost use Rattle.model.specs.Histories.{len_at};
+ghost use Rattle.model.specs.Places.{sources};
 ghost use Rattle.history.specs.Items.{history_of};
 ghost use Rattle.history.specs.Tells.{Tells, IsLineWithin};
 

@@ -2,9 +2,9 @@
 ghost use Rattle.std.specs.Prelude.{◌≡◌, ◌==◌, ◌&&◌, ◌<◌, ℕ, [], length};
 ghost use Rattle.row.specs.Cells.{datum_of};
 ghost use Rattle.plan.specs.Layouts.{view_at};
-ghost use Rattle.book.specs.Cuts.{IsAtMost, IsWithin};
-ghost use Rattle.book.specs.Histories.{floor_at, floor_in, floor_of, last_or, view_shard};
-ghost use Rattle.book.specs.Legal.{EachShard};
+ghost use Rattle.model.specs.Cuts.{IsAtMost, IsWithin};
+ghost use Rattle.model.specs.Histories.{floor_at, floor_in, floor_of, last_or, view_shard};
+ghost use Rattle.model.specs.Legal.{EachShard};
 ghost use Rattle.history.specs.Items.{item_of, history_of};
 ghost use Rattle.history.specs.Tells.{Tells};
 

@@ -1,7 +1,7 @@
 //! The items of a history.
 use crate::cut::{Cut, Floors};
-use book::cut::Place;
-use book::entry::Entry;
+use model::place::Place;
+use model::entry::Entry;
 use row::row::Row;
 use row::value::Value;
 

@@ -2,13 +2,13 @@
 ghost use Rattle.std.specs.Prelude.{◌≡◌, ◌≢◌, ◌<◌, length, IfOk, MatchOption};
 ghost use Rattle.row.specs.Bags.{Each};
 ghost use Rattle.row.specs.Cells.{datum_of, shard};
-ghost use Rattle.book.specs.Entries.{change_of};
-ghost use Rattle.book.specs.Histories.{Author as AuthorView};
-ghost use Rattle.book.specs.Legal.{Allows, AllowsWrite, AllowsRead, AllowsFence, IsLegal};
-ghost use Rattle.book.specs.Logs.{key_of};
+ghost use Rattle.model.specs.Entries.{change_of};
+ghost use Rattle.model.specs.Histories.{Author as AuthorView};
+ghost use Rattle.model.specs.Legal.{Allows, AllowsWrite, AllowsRead, AllowsFence, IsLegal};
+ghost use Rattle.model.specs.Logs.{key_of};
 ghost use Rattle.history.specs.Items.{item_of, history_of};
 ghost use Rattle.history.specs.Tells.{Tells};
-ghost use Rattle.book.specs.Sessions.{places_of};
+ghost use Rattle.model.specs.Tables.{places_of};
 ghost use Rattle.history.specs.Verdicts.{IsFirst, WriteNeeds, write_faults, ReadNeeds, read_faults, FenceNeeds, fence_faults, IsFault, IsVerdict};
 
 use crate::cut::Cut;
@@ -19,7 +19,7 @@ use crate::item::{Fence, Item, Read, Write};
 use crate::logs::{Author, authors_of, log_of};
 use crate::own::{are_own, are_past};
 use crate::places::place_of;
-use book::entry::Entry;
+use model::entry::Entry;
 use plain::query::answer;
 use plain::rows::{cell_or, is_lawful};
 use plan::plan::Plan;

@@ -1,11 +1,11 @@
 //! The logs of a history, and who wrote them.
 ghost use Rattle.std.specs.Prelude.{◌≡◌, ◌++◌, length, map, take, if◌then◌else◌, IfOk, OnOk};
-ghost use Rattle.book.specs.Entries.{change_of};
-ghost use Rattle.book.specs.Histories.{entry_in, log_of, author_in, authors_of};
+ghost use Rattle.model.specs.Entries.{change_of};
+ghost use Rattle.model.specs.Histories.{entry_in, log_of, author_in, authors_of};
 ghost use Rattle.history.specs.Items.{item_of, history_of};
 
 use crate::item::Item;
-use book::entry::Entry;
+use model::entry::Entry;
 use plain::front::Front;
 use std::alloc::{AllocError, Global};
 use std::marker::Model;
@@ -93,7 +93,7 @@ pub struct Author {
 }
 
 impl Model for Author {
-    ghost use Rattle.book.specs.Histories.{Author as AuthorView};
+    ghost use Rattle.model.specs.Histories.{Author as AuthorView};
 
     ghost Value = { AuthorView };
 

@@ -2,10 +2,10 @@
 ghost use Rattle.std.specs.Prelude.{◌≡◌, ◌<◌, ℕ, [], length, IfOk};
 ghost use Rattle.row.specs.Bags.{Each};
 ghost use Rattle.plan.specs.Layouts.{view_at};
-ghost use Rattle.book.specs.Histories.{floor_at, len_at};
-ghost use Rattle.book.specs.Legal.{EachShard, IsPast, IsOwn};
-ghost use Rattle.book.specs.Places.{sources, source_at};
-ghost use Rattle.book.specs.Sessions.{places_of};
+ghost use Rattle.model.specs.Histories.{floor_at, len_at};
+ghost use Rattle.model.specs.Legal.{EachShard, IsPast, IsOwn};
+ghost use Rattle.model.specs.Places.{sources, source_at};
+ghost use Rattle.model.specs.Tables.{places_of};
 ghost use Rattle.history.specs.Items.{place_of, history_of};
 ghost use Rattle.history.specs.Tells.{Tells, IsSource};
 
@@ -13,7 +13,7 @@ use crate::cut::{Cut, Floors};
 use crate::item::Item;
 use crate::logs::authors_of;
 use crate::places::{source_at, source_count};
-use book::cut::Place;
+use model::place::Place;
 use plan::plan::Plan;
 use std::alloc::{AllocError, Global};
 

@@ -1,7 +1,7 @@
 //! Base shards: which table and shard each is, and which are sources of the stage.
 ghost use Rattle.std.specs.Prelude.{◌≡◌, ◌+◌, ◌*◌, ◌<◌, ◌≤◌, length, MatchOption};
 ghost use Rattle.plan.specs.Layouts.{table_at};
-ghost use Rattle.book.specs.Places.{shards_before, base_count, base_at, table_of, shard_of, side_count, sources, source_at};
+ghost use Rattle.model.specs.Places.{shards_before, base_count, base_at, table_of, shard_of, side_count, sources, source_at};
 
 use plan::plan::Plan;
 use plan::stage::Side;

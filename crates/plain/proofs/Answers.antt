@@ -7,7 +7,7 @@ use Rattle.row.specs.CellOrder.{row_total, row_same}
 use Rattle.row.specs.Bags.{joined, sorted}
 use Rattle.row.proofs.BagLaws.{sort_is}
 use Rattle.plan.specs.Layouts.{Layout}
-use Rattle.book.specs.Queries.{Line, part, parts, answer}
+use Rattle.model.specs.Queries.{Line, part, parts, answer}
 
 parts_push : (p : Layout) (s : ℕ) (fs : List Line) (f : Line) (i : ℕ) (k : Datum) → joined (parts p s (fs ++ f ∷ []) i k) ≡ joined (parts p s fs i k) ++ part p (s + length fs) f i k
 parts_push p s [] f i k = let e : s + 0 ≡ s = omega arith in rw (e) (append-nil (part p s f i k))

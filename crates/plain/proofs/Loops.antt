@@ -4,10 +4,10 @@ use Rattle.std.proofs.Common.{◌≡◌, ℕ, ◌+◌, ◌<◌, Bool, List, [], 
 use Rattle.std.proofs.lemmas.List.{take_more, map-append}
 use Rattle.std.proofs.lemmas.List.Concat.{flat_map-append}
 use Rattle.row.specs.Cells.{Cells}
-use Rattle.book.specs.Logs.{changed, rows_of}
-use Rattle.book.specs.Entries.{change_of}
-use Rattle.book.specs.declared.entry.Entry.{Entry}
-use Rattle.book.proofs.LogLaws.{rows_of-push}
+use Rattle.model.specs.Logs.{changed, rows_of}
+use Rattle.model.specs.Entries.{change_of}
+use Rattle.model.specs.declared.entry.Entry.{Entry}
+use Rattle.model.proofs.LogLaws.{rows_of-push}
 
 -- the next element goes to the end
 pub mapped_more : {X Y : Type 0} (f : X → Y) (xs : List X) (i : ℕ) (x : X) (y : Y) (out : List Y) → i < length xs → x ≡ get_or xs i x → y ≡ f x → out ≡ map f (take i xs) → out ++ y ∷ [] ≡ map f (take (i + 1) xs)

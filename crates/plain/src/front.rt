@@ -1,10 +1,10 @@
 //! Fronts: the first entries of a log.
 ghost use Rattle.std.specs.Prelude.{◌≡◌, ◌<◌, map, length};
 ghost use Rattle.std.specs.List.{list_all};
-ghost use Rattle.book.specs.Entries.{change_of};
-ghost use Rattle.book.specs.Logs.{fits};
+ghost use Rattle.model.specs.Entries.{change_of};
+ghost use Rattle.model.specs.Logs.{fits};
 
-use book::entry::Entry;
+use model::entry::Entry;
 use plan::table::Table;
 use std::marker::Model;
 
@@ -16,8 +16,8 @@ pub struct Front {
 
 impl Model for Front {
     ghost use Rattle.std.specs.Prelude.{List, map};
-    ghost use Rattle.book.specs.Logs.{Change};
-    ghost use Rattle.book.specs.Entries.{change_of};
+    ghost use Rattle.model.specs.Logs.{Change};
+    ghost use Rattle.model.specs.Entries.{change_of};
 
     ghost Value = { List Change };
 
@@ -57,7 +57,7 @@ pub struct Line {
 
 impl Model for Line {
     ghost use Rattle.std.specs.Prelude.{List};
-    ghost use Rattle.book.specs.Logs.{Change};
+    ghost use Rattle.model.specs.Logs.{Change};
 
     ghost Value = { List (List Change) };
 

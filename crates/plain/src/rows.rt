@@ -1,12 +1,12 @@
 //! The rows of a front, and what is lawful and what is refused there.
 ghost use Rattle.std.specs.Prelude.{◌≡◌, ◌∷◌, [], ◌++◌, not, map, cond, pos, filter, IfOk, List, length};
 ghost use Rattle.row.specs.Cells.{Cells, datum_of, int, cell_at, has};
-ghost use Rattle.book.specs.Logs.{changed, rows_of, is_held, lawful};
-ghost use Rattle.book.specs.Refusals.{refusal, full};
-ghost use Rattle.book.specs.Entries.{change_of};
+ghost use Rattle.model.specs.Logs.{changed, rows_of, is_held, lawful};
+ghost use Rattle.model.specs.Refusals.{refusal, full};
+ghost use Rattle.model.specs.Entries.{change_of};
 
 use crate::front::Front;
-use book::entry::Entry;
+use model::entry::Entry;
 use row::refused::Refused;
 use row::row::Row;
 use row::value::Value;

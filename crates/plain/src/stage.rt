@@ -3,8 +3,8 @@ ghost use Rattle.std.specs.Prelude.{◌≡◌, ◌≢◌, ◌<◌, ◌≤◌, If
 ghost use Rattle.std.specs.List.{list_all};
 ghost use Rattle.plan.specs.Outputs.{pass};
 ghost use Rattle.plan.specs.Layouts.{table_at};
-ghost use Rattle.book.specs.Places.{side_count};
-ghost use Rattle.book.specs.Queries.{stage_rows, side_share, side_rows, left, right};
+ghost use Rattle.model.specs.Places.{side_count};
+ghost use Rattle.model.specs.Queries.{stage_rows, side_share, side_rows, left, right};
 ghost use Rattle.plain.specs.Fitting.{is_line, all_fit};
 
 use crate::front::{Front, Line};

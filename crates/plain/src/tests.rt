@@ -3,7 +3,7 @@ use crate::front::{Front, Line};
 use crate::query::{answer, output};
 use crate::rows::{is_lawful, refusal, rows_of};
 use crate::stage::{are_lines, is_line, left_rows, right_rows};
-use book::entry::Entry;
+use model::entry::Entry;
 use plan::draft::Draft;
 use plan::kinds::{Aggregate, Kind, Op};
 use plan::plan::{Plan, ViewPlan};

@@ -7,16 +7,16 @@ use Rattle.std.proofs.lemmas.List.Concat.{flat_map-append}
 use Rattle.std.proofs.lemmas.Grind.{get_or-set_at}
 use mathlib.Core.List.{IsPrefix}
 use Rattle.plan.specs.Layouts.{Layout, table_named}
-use Rattle.book.specs.Refusals.{write_refusal}
-use Rattle.book.specs.Logs.{Change}
-use Rattle.book.specs.Places.{base_count, sources}
-use Rattle.book.specs.Histories.{Item, write, Lengths, Floors, floor_at, entry_in, author_in, log_of, authors_of}
-use Rattle.book.specs.Cuts.{IsAtMost}
+use Rattle.model.specs.Refusals.{write_refusal}
+use Rattle.model.specs.Logs.{Change}
+use Rattle.model.specs.Places.{base_count, sources}
+use Rattle.model.specs.Histories.{Item, write, Lengths, Floors, floor_at, entry_in, author_in, log_of, authors_of}
+use Rattle.model.specs.Cuts.{IsAtMost}
 use Rattle.book.specs.Replies.{IsAfter}
-use Rattle.book.proofs.HistoryLaws.{authors_push}
-use Rattle.book.proofs.Prefixes.{prefix_self, prefix_get, prefix_length}
+use Rattle.model.proofs.Growth.{authors_push}
+use Rattle.model.proofs.Prefixes.{prefix_self, prefix_get, prefix_length}
 use Rattle.book.proofs.Fronts.{length_authors}
-use Rattle.book.proofs.Later.{at_most_trans, at_most_none}
+use Rattle.model.proofs.Growth.{at_most_trans, at_most_none}
 use Rattle.row.specs.declared.refused.Refused.{Refused}
 use Rattle.view.specs.Snapshots.{Snapshot}
 use Rattle.system.specs.Inserts.{base_of, first_of, stolen_refusal, call_refusal, IsTaken, IsAnswer, IsUntaken, Declines, untaken}

@@ -5,16 +5,17 @@ use mathlib.Core.List.{IsPrefix}
 use Rattle.row.specs.Bags.{Each}
 use Rattle.row.proofs.BagLemmas.{Each-weaker}
 use Rattle.plan.specs.Layouts.{Layout}
-use Rattle.book.specs.Places.{sources, source_at}
-use Rattle.book.specs.Histories.{Item, fence, Place, Lengths, Floors, len_at, floor_at, log_of}
-use Rattle.book.specs.Cuts.{IsAtMost}
+use Rattle.model.specs.Places.{sources, source_at}
+use Rattle.model.specs.Histories.{Item, fence, Place, Lengths, Floors, len_at, floor_at, log_of}
+use Rattle.model.specs.Cuts.{IsAtMost}
 use Rattle.book.specs.Fronts.{FrontView, IsReached}
-use Rattle.book.specs.Legal.{EachShard, IsOwn, IsPast}
+use Rattle.model.specs.Legal.{EachShard, IsOwn, IsPast}
 use Rattle.book.specs.Pages.{IsAdded}
-use Rattle.book.specs.Sessions.{own_word, even_floors}
-use Rattle.book.proofs.Prefixes.{prefix_trans, prefix_length}
-use Rattle.book.proofs.Later.{at_most_trans}
-use Rattle.book.proofs.Lines.{even_at, same_in}
+use Rattle.book.specs.Sessions.{own_word}
+use Rattle.model.specs.Tables.{even_floors}
+use Rattle.model.proofs.Prefixes.{prefix_trans, prefix_length}
+use Rattle.model.proofs.Growth.{at_most_trans}
+use Rattle.model.proofs.CutLaws.{even_at, same_in}
 use Rattle.view.specs.Snapshots.{Snapshot, IsLater}
 use Rattle.system.specs.Callers.{Caller, accepted_at, whole_cut, IsCaller}
 use Rattle.system.specs.Fences.{place_of, own_places, IsFloored, IsFlooredByShown, IsCovering, AreLonger, AreShown, IsFenced}

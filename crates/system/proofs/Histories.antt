@@ -4,13 +4,13 @@ use mathlib.Core.List.{IsPrefix}
 use Rattle.row.specs.Bags.{Each}
 use Rattle.row.specs.declared.refused.Refused.TheVariants.{NoMemory, Stopped}
 use Rattle.plan.specs.Layouts.{Layout}
-use Rattle.book.specs.Logs.{Change}
-use Rattle.book.specs.Places.{layout_of}
-use Rattle.book.specs.Histories.{Item, Author, log_of, authors_of}
-use Rattle.book.specs.Refusals.{refusal}
-use Rattle.book.specs.Legal.{limit}
+use Rattle.model.specs.Logs.{Change}
+use Rattle.model.specs.Places.{layout_of}
+use Rattle.model.specs.Histories.{Item, Author, log_of, authors_of}
+use Rattle.model.specs.Refusals.{refusal}
+use Rattle.model.specs.Legal.{limit}
 use Rattle.book.specs.Replies.{IsAfter}
-use Rattle.book.proofs.Prefixes.{prefix_trans}
+use Rattle.model.proofs.Prefixes.{prefix_trans}
 use Rattle.domain.specs.Messages.{DeclinedView, IsAnswered}
 use Rattle.system.specs.Inserts.{IsDecidedIn}
 

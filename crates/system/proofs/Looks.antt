@@ -4,15 +4,16 @@ use Rattle.std.proofs.lemmas.List.{length-map, map-append}
 use mathlib.Core.List.{IsPrefix}
 use Rattle.row.specs.Cells.{Datum, Cells}
 use Rattle.plan.specs.Layouts.{Layout, view_at}
-use Rattle.book.specs.Cuts.{IsAtMost, IsWithin}
+use Rattle.model.specs.Cuts.{IsAtMost, IsWithin}
 use Rattle.book.specs.Fronts.{FrontView}
-use Rattle.book.specs.Histories.{Item, read, Lengths, Floors, len_at, floor_at, view_shard, log_of}
+use Rattle.model.specs.Histories.{Item, read, Lengths, Floors, len_at, floor_at, view_shard, log_of}
 use Rattle.book.specs.Pages.{IsAdded}
-use Rattle.book.specs.Places.{sources, source_at}
-use Rattle.book.specs.Sessions.{own_word, even_floors, with_floor}
-use Rattle.book.proofs.Later.{at_most_self, at_most_trans, at_most_none}
-use Rattle.book.proofs.Lines.{even_at, same_in}
-use Rattle.book.proofs.Prefixes.{prefix_length}
+use Rattle.model.specs.Places.{sources, source_at}
+use Rattle.book.specs.Sessions.{own_word}
+use Rattle.model.specs.Tables.{even_floors, with_floor}
+use Rattle.model.proofs.Growth.{at_most_self, at_most_trans, at_most_none}
+use Rattle.model.proofs.CutLaws.{even_at, same_in}
+use Rattle.model.proofs.Prefixes.{prefix_length}
 use Rattle.view.specs.Snapshots.{Snapshot, IsLater, rows_shown}
 use Rattle.view.proofs.Rises.{later_self, later_trans}
 use Rattle.system.specs.Served.{IsSingle}

@@ -12,15 +12,16 @@ use Rattle.row.proofs.Shards.{shard_small}
 use Rattle.plan.specs.Layouts.{TableLayout, SideLayout, Layout, table_at, view_at}
 use Rattle.plan.specs.Outputs.{output, pass}
 use Rattle.plan.specs.declared.kinds.Aggregate.{Aggregate}
-use Rattle.book.specs.Logs.{Change, rows_of}
-use Rattle.book.specs.Places.{base_count, base_at, shards_before, table_in, table_of, layout_of, side_count, side_bases, right_bases, sources, source_at}
-use Rattle.book.specs.Queries.{Line, side_share, left, right, part, parts, answer}
-use Rattle.book.specs.Histories.{Item, Lengths, len_at, log_of, view_shard}
-use Rattle.book.specs.Cuts.{IsAtMost, IsWithin, line_of, fronts_of}
+use Rattle.model.specs.Logs.{Change, rows_of}
+use Rattle.model.specs.Places.{base_count, base_at, shards_before, table_in, table_of, layout_of, side_count, side_bases, right_bases, sources, source_at}
+use Rattle.model.specs.Queries.{Line, side_share, left, right, part, parts, answer}
+use Rattle.model.specs.Histories.{Item, Lengths, len_at, log_of, view_shard}
+use Rattle.model.specs.Cuts.{IsAtMost, IsWithin, line_of, fronts_of}
 use Rattle.book.specs.Fronts.{FrontView, entries}
-use Rattle.book.specs.Sessions.{CutView, fronts, with_length}
-use Rattle.book.proofs.Later.{log_more}
-use Rattle.book.proofs.PlaceLaws.{before_none, before_more, base_layout}
+use Rattle.book.specs.Sessions.{CutView, fronts}
+use Rattle.model.specs.Tables.{with_length}
+use Rattle.model.proofs.Growth.{log_more}
+use Rattle.model.proofs.PlaceLaws.{before_none, before_more, base_layout}
 use Rattle.std.specs.List.{range_with_len}
 use Rattle.domain.specs.Packets.{PacketView, IsTruePacket}
 use Rattle.view.specs.Directories.{keyed}

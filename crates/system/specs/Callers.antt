@@ -1,10 +1,10 @@
 -- Sessions, as their callers see them.
 use Rattle.std.specs.Prelude.{◌≡◌, ℕ, Bool, List, length, map, replicate, slice_get, slice_index_or, Option, Some, None}
 use Rattle.plan.specs.Layouts.{Layout}
-use Rattle.book.specs.Places.{base_count, sources}
-use Rattle.book.specs.Histories.{Item, Lengths, Floors, floor_at, log_of, authors_of}
-use Rattle.book.specs.Cuts.{IsAtMost}
-use Rattle.book.specs.Legal.{EachShard}
+use Rattle.model.specs.Places.{base_count, sources}
+use Rattle.model.specs.Histories.{Item, Lengths, Floors, floor_at, log_of, authors_of}
+use Rattle.model.specs.Cuts.{IsAtMost}
+use Rattle.model.specs.Legal.{EachShard}
 use Rattle.view.specs.Snapshots.{Snapshot}
 use Rattle.system.specs.Served.{IsSingle}
 

@@ -4,10 +4,10 @@ use mathlib.Core.List.{IsPrefix}
 use Rattle.row.specs.declared.refused.Refused.{Refused}
 use Rattle.row.specs.declared.refused.Refused.TheVariants.{NoMemory, Stopped, Behind, Stolen}
 use Rattle.plan.specs.Layouts.{Layout}
-use Rattle.book.specs.Places.{sources, source_at}
-use Rattle.book.specs.Histories.{Item, fence, Place, len_at, floor_at, log_of}
+use Rattle.model.specs.Places.{sources, source_at}
+use Rattle.model.specs.Histories.{Item, fence, Place, len_at, floor_at, log_of}
 use Rattle.book.specs.Fronts.{FrontView}
-use Rattle.book.specs.Legal.{EachShard}
+use Rattle.model.specs.Legal.{EachShard}
 use Rattle.book.specs.Pages.{IsAdded}
 use Rattle.book.specs.Sessions.{own_word}
 use Rattle.view.specs.Snapshots.{Snapshot, IsLater}

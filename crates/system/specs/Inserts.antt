@@ -6,11 +6,11 @@ use Rattle.row.specs.Cells.{shard}
 use Rattle.row.specs.declared.refused.Refused.{Refused}
 use Rattle.row.specs.declared.refused.Refused.TheVariants.{NoMemory, Stopped, Stolen}
 use Rattle.plan.specs.Layouts.{Layout, table_at, table_named}
-use Rattle.book.specs.Logs.{Change, key_of}
-use Rattle.book.specs.Places.{base_at, layout_of}
-use Rattle.book.specs.Histories.{Item, write, Author, log_of, authors_of}
-use Rattle.book.specs.Refusals.{refusal, write_refusal}
-use Rattle.book.specs.Legal.{limit}
+use Rattle.model.specs.Logs.{Change, key_of}
+use Rattle.model.specs.Places.{base_at, layout_of}
+use Rattle.model.specs.Histories.{Item, write, Author, log_of, authors_of}
+use Rattle.model.specs.Refusals.{refusal, write_refusal}
+use Rattle.model.specs.Legal.{limit}
 use Rattle.book.specs.Replies.{IsAfter}
 use Rattle.domain.specs.Messages.{last_number}
 use Rattle.system.specs.Callers.{Caller, accepted_at}

@@ -5,11 +5,12 @@ use Rattle.row.specs.Cells.{Datum, Cells}
 use Rattle.row.specs.declared.refused.Refused.{Refused}
 use Rattle.row.specs.declared.refused.Refused.TheVariants.{NoMemory, Stolen}
 use Rattle.plan.specs.Layouts.{Layout, view_named}
-use Rattle.book.specs.Histories.{Item, read, Lengths, floor_at, view_shard}
-use Rattle.book.specs.Cuts.{IsAtMost}
+use Rattle.model.specs.Histories.{Item, read, Lengths, floor_at, view_shard}
+use Rattle.model.specs.Cuts.{IsAtMost}
 use Rattle.book.specs.Pages.{IsAdded}
-use Rattle.book.specs.Refusals.{read_refusal}
-use Rattle.book.specs.Sessions.{own_word, with_floor}
+use Rattle.model.specs.Refusals.{read_refusal}
+use Rattle.book.specs.Sessions.{own_word}
+use Rattle.model.specs.Tables.{with_floor}
 use Rattle.view.specs.Snapshots.{IsLater, is_shown, rows_shown}
 use Rattle.system.specs.Callers.{Caller}
 use Rattle.system.specs.Inserts.{first_of, stolen_refusal}

@@ -1,13 +1,13 @@
 //! What becomes of a write that was sent.
 ghost use Rattle.std.specs.Prelude.{◌≡◌, IfOk, IfErr, IsErr, IfSome};
 ghost use mathlib.Core.List.{IsPrefix};
-ghost use Rattle.book.specs.Entries.{change_of};
-ghost use Rattle.book.specs.Histories.{write};
+ghost use Rattle.model.specs.Entries.{change_of};
+ghost use Rattle.model.specs.Histories.{write};
 ghost use Rattle.book.specs.Replies.{IsAfter, IsWhole};
 ghost use Rattle.system.specs.Inserts.{IsAnswer};
 
 use crate::shared::Shared;
-use book::entry::Entry;
+use model::entry::Entry;
 use book::front::Front;
 use book::law::Naming;
 use book::part::Part;

@@ -3,15 +3,16 @@ ghost use Rattle.std.specs.Prelude.{◌≡◌, ◌⊎◌, ◌+◌, ◌<◌, ◌�
 ghost use mathlib.Core.List.{IsPrefix};
 ghost use Rattle.row.specs.Bags.{Each};
 ghost use Rattle.book.specs.Fronts.{FrontView};
-ghost use Rattle.book.specs.Legal.{IsLegal};
-ghost use Rattle.book.specs.Places.{sources};
-ghost use Rattle.book.specs.Sessions.{places_of};
+ghost use Rattle.model.specs.Legal.{IsLegal};
+ghost use Rattle.model.specs.Places.{sources};
+ghost use Rattle.model.specs.Tables.{places_of};
 ghost use Rattle.system.specs.Fences.{AreLonger, AreShown};
 ghost use Rattle.system.specs.Reads.{HasLooked};
 
 use crate::session::Session;
 use crate::shared::{Ack, Marker, Shared, ToBase};
-use book::cut::{Cuts, Place};
+use book::cut::Cuts;
+use model::place::Place;
 use book::front::Front;
 use book::law::Naming;
 use row::refused::Refused;

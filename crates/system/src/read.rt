@@ -2,15 +2,16 @@
 ghost use Rattle.std.specs.Prelude.{◌≡◌, ◌⊎◌, ◌<◌, IfOk, OnOk, IfErr, IfSome, Some, None, Err, length};
 ghost use Rattle.row.specs.Cells.{datum_of};
 ghost use Rattle.plan.specs.Layouts.{view_named, view_at};
-ghost use Rattle.book.specs.Cuts.{IsAtMost};
-ghost use Rattle.book.specs.Histories.{floor_at, view_shard};
-ghost use Rattle.book.specs.Legal.{IsLegal};
-ghost use Rattle.book.specs.Refusals.{read_refusal};
+ghost use Rattle.model.specs.Cuts.{IsAtMost};
+ghost use Rattle.model.specs.Histories.{floor_at, view_shard};
+ghost use Rattle.model.specs.Legal.{IsLegal};
+ghost use Rattle.model.specs.Refusals.{read_refusal};
 ghost use Rattle.view.specs.Snapshots.{rows_shown};
 ghost use Rattle.domain.specs.Messages.{last_number};
 
 use crate::session::Session;
-use book::cut::{Cut, Lengths};
+use book::cut::Cut;
+use model::lengths::Lengths;
 use book::law::Naming;
 use plan::plan::Plan;
 use row::refused::Refused;

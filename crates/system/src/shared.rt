@@ -1,12 +1,12 @@
 //! What the threads of a system share.
 ghost use Rattle.std.specs.Prelude.{◌≡◌, ◌⊎◌, ◌<◌, IfErr};
 ghost use Rattle.row.specs.Bags.{Each};
-ghost use Rattle.book.specs.Places.{base_count, sources};
+ghost use Rattle.model.specs.Places.{base_count, sources};
 
 use crate::queue::{Mailbox, PutError, Queue};
 use book::book::Book;
 use book::law::Naming;
-use book::places;
+use model::places;
 use domain::message::{Reply, Write};
 use domain::packet::BasePacket;
 use plan::plan::Plan;
@@ -70,7 +70,7 @@ impl<J: Naming> Model for Shared<J> {
     ghost use Rattle.std.specs.Prelude.{◌≡◌, ◌<◌};
     ghost use Rattle.row.specs.Bags.{Each};
     ghost use Rattle.plan.specs.Layouts.{Layout};
-    ghost use Rattle.book.specs.Places.{base_count, sources as sources_of};
+    ghost use Rattle.model.specs.Places.{base_count, sources as sources_of};
 
     ghost Value = { Layout };
 

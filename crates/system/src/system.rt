@@ -2,7 +2,7 @@
 ghost use Rattle.std.specs.Prelude.{◌≡◌, ◌⊎◌, ◌+◌, ◌<◌, ◌≤◌, ℕ, false, IfOk, OnOk, IfErr, Err, OnErr, length, drop as dropped, []};
 ghost use Rattle.system.specs.Served.{IsSingle};
 ghost use Rattle.plan.specs.Layouts.{table_at};
-ghost use Rattle.book.specs.Histories.{floor_at};
+ghost use Rattle.model.specs.Histories.{floor_at};
 
 use crate::served::is_single;
 use crate::session::Session;
@@ -12,7 +12,7 @@ use crate::worker::base_work;
 use book::book::Opened;
 use book::front::Front;
 use book::law::Naming;
-use book::places::base_at;
+use model::places::base_at;
 use domain::base_domain::BaseDomain;
 use plan::plan::Plan;
 use row::refused::Refused;

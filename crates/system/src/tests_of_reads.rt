@@ -6,7 +6,7 @@ use crate::read::{Answer, Found};
 use crate::session::Session;
 use crate::system::System;
 use book::book::Opened;
-use book::entry::Entry;
+use model::entry::Entry;
 use book::law::Naming;
 use plain::front::{Front, Line};
 use plain::query;

@@ -1,7 +1,7 @@
 //! The thread of a view's shard.
 ghost use Rattle.std.specs.Prelude.{◌≡◌, ◌≢◌, ◌⊎◌, [], true, false, drop as dropped, IfOk, OnOk, IfErr, OnErr, IsTrue, IfSome, IsSome, Some, None};
-ghost use Rattle.book.specs.Sessions.{with_length};
-ghost use Rattle.book.specs.Histories.{len_at};
+ghost use Rattle.model.specs.Tables.{with_length};
+ghost use Rattle.model.specs.Histories.{len_at};
 ghost use Rattle.system.specs.Messages.{OnMarker, OnPacket};
 ghost use Rattle.system.specs.Served.{IsSingle};
 

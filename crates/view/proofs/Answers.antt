@@ -11,8 +11,8 @@ use Rattle.row.proofs.BagLemmas.{IsAscending-sorted, one_list}
 use Rattle.partial.specs.Changes.{with_records}
 use Rattle.partial.specs.BagLaws.{times-with_records, IsAscending-with_records}
 use Rattle.plan.specs.Layouts.{Layout}
-use Rattle.book.specs.Queries.{answer, parts}
-use Rattle.book.specs.Histories.{view_shard}
+use Rattle.model.specs.Queries.{answer, parts}
+use Rattle.model.specs.Histories.{view_shard}
 use Rattle.book.specs.Sessions.{CutView, fronts}
 use Rattle.view.specs.Directories.{keyed}
 use Rattle.view.specs.Snapshots.{IsDelta, AreAnswers, key_column}

@@ -5,9 +5,9 @@ use mathlib.Core.Option.{some}
 use lib.ListN.{get_elem?}
 use Rattle.left_right.specs.Register.{Admits, TurnsAt, Forks, Merges}
 use Rattle.atomic_table.proofs.Lists.{at_set, at_snoc}
-use Rattle.book.specs.Cuts.{IsAtMost}
-use Rattle.book.specs.Histories.{Lengths}
-use Rattle.book.proofs.Later.{at_most_self, at_most_trans}
+use Rattle.model.specs.Cuts.{IsAtMost}
+use Rattle.model.specs.Histories.{Lengths}
+use Rattle.model.proofs.Growth.{at_most_self, at_most_trans}
 use Rattle.view.specs.Snapshots.{Snapshot, DeltaView, IsLater, Starts, applied}
 use Rattle.view.specs.Sights.{IsChain, Keeps, Sees, IsOf, seen_or, nothing}
 

@@ -6,11 +6,11 @@ use Rattle.row.specs.declared.value.Value.{Value}
 use Rattle.plan.specs.Layouts.{SideLayout, Layout, view_at}
 use Rattle.plan.specs.Outputs.{out, output, key_place}
 use Rattle.plan.specs.declared.kinds.Aggregate.{Aggregate}
-use Rattle.book.specs.Logs.{Change}
-use Rattle.book.specs.Places.{side_count, sources}
-use Rattle.book.specs.Queries.{Line, side_share, side_rows, left, right, right_rows, part, parts, answer}
-use Rattle.book.specs.Histories.{Item}
-use Rattle.book.specs.Cuts.{line_of, fronts_of}
+use Rattle.model.specs.Logs.{Change}
+use Rattle.model.specs.Places.{side_count, sources}
+use Rattle.model.specs.Queries.{Line, side_share, side_rows, left, right, right_rows, part, parts, answer}
+use Rattle.model.specs.Histories.{Item}
+use Rattle.model.specs.Cuts.{line_of, fronts_of}
 use Rattle.book.specs.Sessions.{CutView}
 use Rattle.view.specs.Snapshots.{AreAnswers, zero_lengths}
 

@@ -2,7 +2,7 @@
 use Rattle.std.specs.Prelude.{ℕ, ◌≡◌, List, [], ◌∷◌, Option, Some, None, IfSome}
 use mathlib.Core.Option.{some}
 use lib.ListN.{get_elem?}
-use Rattle.book.specs.Cuts.{IsAtMost}
+use Rattle.model.specs.Cuts.{IsAtMost}
 use Rattle.view.specs.Snapshots.{Snapshot, DeltaView, IsLater, Starts, applied}
 
 -- what is shown is no less than what each has seen

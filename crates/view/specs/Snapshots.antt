@@ -6,10 +6,10 @@ use Rattle.row.specs.declared.record.Record.{Record}
 use Rattle.row.specs.declared.value.Value.{Value}
 use Rattle.plan.specs.Layouts.{Layout, view_at}
 use Rattle.plan.specs.Outputs.{key_place}
-use Rattle.book.specs.Cuts.{IsAtMost}
-use Rattle.book.specs.Histories.{Lengths, view_shard}
-use Rattle.book.specs.Places.{sources}
-use Rattle.book.specs.Queries.{answer}
+use Rattle.model.specs.Cuts.{IsAtMost}
+use Rattle.model.specs.Histories.{Lengths, view_shard}
+use Rattle.model.specs.Places.{sources}
+use Rattle.model.specs.Queries.{answer}
 use Rattle.book.specs.Sessions.{CutView, fronts}
 use Rattle.view.specs.Directories.{keyed}
 

@@ -1,6 +1,6 @@
 //! One change of a shown copy.
 ghost use Rattle.std.specs.Prelude.{◌≡◌};
-ghost use Rattle.book.specs.Cuts.{IsAtMost};
+ghost use Rattle.model.specs.Cuts.{IsAtMost};
 ghost use Rattle.view.specs.Snapshots.{IsDelta};
 
 use book::cut::Cut;

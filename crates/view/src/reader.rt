@@ -2,7 +2,7 @@
 ghost use Rattle.std.specs.Prelude.{◌≡◌, false, IfOk, IfErr, IfSome, None};
 ghost use Rattle.left_right.specs.Sides.{view as sight_of};
 ghost use Rattle.row.specs.Cells.{datum_of};
-ghost use Rattle.book.specs.Histories.{view_shard};
+ghost use Rattle.model.specs.Histories.{view_shard};
 ghost use Rattle.view.specs.Looks.{OnHit, OnMiss};
 ghost use Rattle.view.specs.Snapshots.{Snapshot, IsLater, is_shown, rows_shown};
 ghost use Rattle.view.specs.Sights.{IsOf, seen_or, nothing};

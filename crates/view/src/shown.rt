@@ -1,7 +1,7 @@
 //! What a shown copy holds.
 ghost use Rattle.std.specs.Prelude.{◌≡◌, ◌<◌, length, IfOk, IfSome, IsTrue, IsNone, IsSome, true, false};
 ghost use Rattle.row.specs.Cells.{datum_of};
-ghost use Rattle.book.specs.Histories.{view_shard};
+ghost use Rattle.model.specs.Histories.{view_shard};
 ghost use Rattle.plan.specs.Layouts.{view_at};
 ghost use Rattle.view.specs.Snapshots.{is_shown, key_column, rows_shown, zero_lengths};
 

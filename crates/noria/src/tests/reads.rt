@@ -1,7 +1,7 @@
 //! Reads over a shown copy, as the program prints them.
 use super::{NOTES, is_line_feed, run, run_recipe, run_words};
 use crate::reads::write_rows;
-use book::cut::Lengths;
+use model::lengths::Lengths;
 use row::row::Row;
 use row::value::Value;
 use std::alloc::{AllocError, Global};

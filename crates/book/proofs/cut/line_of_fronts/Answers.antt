@@ -1,7 +1,7 @@
 use Rattle.std.proofs.Common.{ℕ, [], ◌∷◌, ◌++◌, ap, ◌∙◌}
 use Rattle.book.specs.Fronts.{FrontView, IsReached}
 use Rattle.book.specs.Pages.{history_of}
-use Rattle.book.proofs.Prefixes.{prefix_trans}
+use Rattle.model.proofs.Prefixes.{prefix_trans}
 use Rattle.book.proofs.Steps.{seen_more}
 use Rattle.book.proofs.Lines.{line_next, fronts_next, fronts_end, reached_now}
 use Rattle.book.proofs.cut.line_of_fronts.Goals as goal

@@ -1,5 +1,5 @@
 use Rattle.std.proofs.Common.{◌≡◌, take}
-use Rattle.book.specs.Cuts.{fronts_of}
+use Rattle.model.specs.Cuts.{fronts_of}
 use Rattle.history.specs.Items.{history_of}
 use Rattle.history.proofs.cuts.fronts_of.Given as goal
 

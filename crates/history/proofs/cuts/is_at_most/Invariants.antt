@@ -1,5 +1,5 @@
 use Rattle.std.proofs.Common.{ℕ, ◌<◌, ◌≤◌}
-use Rattle.book.specs.Histories.{len_at}
+use Rattle.model.specs.Histories.{len_at}
 use Rattle.history.proofs.cuts.is_at_most.Given as goal
 
 abbrev pub invariant-loop-stage : goal.invariant-loop-stage

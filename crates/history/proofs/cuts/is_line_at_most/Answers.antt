@@ -1,5 +1,5 @@
 use Rattle.std.proofs.Common.{length, ap, arith}
-use Rattle.book.specs.Histories.{len_at}
+use Rattle.model.specs.Histories.{len_at}
 use Rattle.history.proofs.CutLoops.{every_length}
 use Rattle.history.proofs.cuts.is_line_at_most.Goals as goal
 

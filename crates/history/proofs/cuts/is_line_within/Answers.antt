@@ -1,6 +1,6 @@
 use Rattle.std.proofs.Common.{◌<◌, ◌≤◌, length, get_or, arith, ap, sym, ◌∙◌}
-use Rattle.book.specs.Places.{source_at}
-use Rattle.book.specs.Histories.{log_of}
+use Rattle.model.specs.Places.{source_at}
+use Rattle.model.specs.Histories.{log_of}
 use Rattle.history.specs.Items.{history_of}
 use Rattle.history.proofs.CutLoops.{every_length}
 use Rattle.history.proofs.cuts.is_line_within.Goals as goal

@@ -1,6 +1,6 @@
 use Rattle.std.proofs.Common.{ℕ, ◌<◌, ◌≤◌, length, get_or}
-use Rattle.book.specs.Places.{source_at}
-use Rattle.book.specs.Histories.{log_of}
+use Rattle.model.specs.Places.{source_at}
+use Rattle.model.specs.Histories.{log_of}
 use Rattle.history.specs.Items.{history_of}
 use Rattle.history.proofs.cuts.is_line_within.Given as goal
 

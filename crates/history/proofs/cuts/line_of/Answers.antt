@@ -1,5 +1,5 @@
 use Rattle.std.proofs.Common.{◌∙◌, length, min, ap, arith, ◌<◌, ◌≤◌}
-use Rattle.book.specs.Places.{sources}
+use Rattle.model.specs.Places.{sources}
 use Rattle.history.specs.Items.{history_of}
 use Rattle.history.proofs.CutLoops.{line_more, line_whole}
 use Rattle.history.proofs.cuts.line_of.Goals as goal

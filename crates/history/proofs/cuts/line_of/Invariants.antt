@@ -1,6 +1,6 @@
 use Rattle.std.proofs.Common.{◌≡◌, take}
-use Rattle.book.specs.Places.{sources}
-use Rattle.book.specs.Cuts.{line_of}
+use Rattle.model.specs.Places.{sources}
+use Rattle.model.specs.Cuts.{line_of}
 use Rattle.history.specs.Items.{history_of}
 use Rattle.history.proofs.cuts.line_of.Given as goal
 

@@ -1,7 +1,7 @@
 use Rattle.std.proofs.Common.{ℕ, ◌<◌}
 use Rattle.plan.specs.Layouts.{view_at}
-use Rattle.book.specs.Cuts.{IsAtMost}
-use Rattle.book.specs.Histories.{floor_at, floor_of}
+use Rattle.model.specs.Cuts.{IsAtMost}
+use Rattle.model.specs.Histories.{floor_at, floor_of}
 use Rattle.history.specs.Items.{history_of}
 use Rattle.history.proofs.floors.are_above.Given as goal
 

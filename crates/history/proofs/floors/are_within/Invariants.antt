@@ -1,7 +1,7 @@
 use Rattle.std.proofs.Common.{ℕ, ◌<◌}
 use Rattle.plan.specs.Layouts.{view_at}
-use Rattle.book.specs.Cuts.{IsWithin}
-use Rattle.book.specs.Histories.{floor_at}
+use Rattle.model.specs.Cuts.{IsWithin}
+use Rattle.model.specs.Histories.{floor_at}
 use Rattle.history.specs.Items.{history_of}
 use Rattle.history.proofs.floors.are_within.Given as goal
 

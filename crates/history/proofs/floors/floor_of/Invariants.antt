@@ -1,5 +1,5 @@
 use Rattle.std.proofs.Common.{◌≡◌, take}
-use Rattle.book.specs.Histories.{floor_of}
+use Rattle.model.specs.Histories.{floor_of}
 use Rattle.history.specs.Items.{history_of}
 use Rattle.history.proofs.floors.floor_of.Given as goal
 

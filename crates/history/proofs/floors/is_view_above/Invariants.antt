@@ -1,6 +1,6 @@
 use Rattle.std.proofs.Common.{ℕ, ◌<◌}
-use Rattle.book.specs.Cuts.{IsAtMost}
-use Rattle.book.specs.Histories.{floor_at, floor_of}
+use Rattle.model.specs.Cuts.{IsAtMost}
+use Rattle.model.specs.Histories.{floor_at, floor_of}
 use Rattle.history.specs.Items.{history_of}
 use Rattle.history.proofs.floors.is_view_above.Given as goal
 

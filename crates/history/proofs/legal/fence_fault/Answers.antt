@@ -1,9 +1,9 @@
 use Rattle.std.proofs.Common.{Bool, List, refl, inl, inr, subst, sym}
 use Rattle.row.specs.Bags.{Each}
-use Rattle.book.specs.Legal.{IsOwn, IsPast, EachShard}
-use Rattle.book.specs.Histories.{floor_at}
-use Rattle.book.specs.Sessions.{places_of}
-use Rattle.book.specs.declared.cut.Place.{Place}
+use Rattle.model.specs.Legal.{IsOwn, IsPast, EachShard}
+use Rattle.model.specs.Histories.{floor_at}
+use Rattle.model.specs.Tables.{places_of}
+use Rattle.model.specs.declared.place.Place.{Place}
 use Rattle.history.specs.Items.{history_of}
 use Rattle.history.specs.Tells.{Tells}
 use Rattle.history.proofs.legal.fence_fault.Goals as goal

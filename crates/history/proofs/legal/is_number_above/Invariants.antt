@@ -1,6 +1,6 @@
 use Rattle.std.proofs.Common.{◌≡◌, ◌<◌, take}
 use Rattle.row.specs.Bags.{Each}
-use Rattle.book.specs.Histories.{Author}
+use Rattle.model.specs.Histories.{Author}
 use Rattle.history.proofs.legal.is_number_above.Given as goal
 
 abbrev pub invariant-loop-author : goal.invariant-loop-author

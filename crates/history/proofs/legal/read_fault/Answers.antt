@@ -1,8 +1,8 @@
 use Rattle.std.proofs.Common.{◌≡◌, ◌<◌, length, refl, inl, inr, subst, sym, ◌∙◌, ap, arith, List, true}
 use Rattle.std.specs.List.{list_all}
-use Rattle.book.specs.Cuts.{IsAtMost}
-use Rattle.book.specs.Histories.{Lengths, floor_of}
-use Rattle.book.specs.Queries.{Line}
+use Rattle.model.specs.Cuts.{IsAtMost}
+use Rattle.model.specs.Histories.{Lengths, floor_of}
+use Rattle.model.specs.Queries.{Line}
 use Rattle.plain.specs.Fitting.{is_line}
 use Rattle.history.specs.Items.{history_of}
 use Rattle.history.proofs.LegalFits.{lines_are}

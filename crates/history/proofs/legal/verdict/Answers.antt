@@ -1,6 +1,6 @@
 use Rattle.std.proofs.Common.{Option, subst, take}
 use Rattle.std.specs.Prelude.{MatchOption}
-use Rattle.book.specs.Legal.{Allows}
+use Rattle.model.specs.Legal.{Allows}
 use Rattle.history.specs.Items.{item_of, history_of}
 use Rattle.history.specs.Verdicts.{IsFault}
 use Rattle.history.specs.declared.fault.Fault.{Fault}

@@ -1,5 +1,5 @@
 use Rattle.std.proofs.Common.{take}
-use Rattle.book.specs.Legal.{IsLegal}
+use Rattle.model.specs.Legal.{IsLegal}
 use Rattle.history.specs.Items.{history_of}
 use Rattle.history.proofs.legal.verdict.Given as goal
 

@@ -1,5 +1,5 @@
 use Rattle.std.proofs.Common.{◌≡◌, take}
-use Rattle.book.specs.Histories.{authors_of}
+use Rattle.model.specs.Histories.{authors_of}
 use Rattle.history.specs.Items.{history_of}
 use Rattle.history.proofs.logs.authors_of.Given as goal
 

@@ -1,5 +1,5 @@
 use Rattle.std.proofs.Common.{◌∙◌, map, refl}
-use Rattle.book.specs.Entries.{change_of}
+use Rattle.model.specs.Entries.{change_of}
 use Rattle.history.proofs.LogLoops.{log_more}
 use Rattle.history.proofs.logs.entries_of.Goals as goal
 

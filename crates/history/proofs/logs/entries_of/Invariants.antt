@@ -1,6 +1,6 @@
 use Rattle.std.proofs.Common.{◌≡◌, map, take}
-use Rattle.book.specs.Entries.{change_of}
-use Rattle.book.specs.Histories.{log_of}
+use Rattle.model.specs.Entries.{change_of}
+use Rattle.model.specs.Histories.{log_of}
 use Rattle.history.specs.Items.{history_of}
 use Rattle.history.proofs.logs.entries_of.Given as goal
 

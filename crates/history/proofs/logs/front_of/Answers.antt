@@ -1,6 +1,6 @@
 use Rattle.std.proofs.Common.{◌∙◌, ap, sym, map, take}
 use Rattle.std.proofs.lemmas.List.{take-map}
-use Rattle.book.specs.Entries.{change_of}
+use Rattle.model.specs.Entries.{change_of}
 use Rattle.history.proofs.logs.front_of.Goals as goal
 
 pub returns : goal.returns

@@ -1,5 +1,5 @@
 use Rattle.std.proofs.Common.{◌≡◌, ◌≤◌, length, take}
-use Rattle.book.specs.Histories.{log_of}
+use Rattle.model.specs.Histories.{log_of}
 use Rattle.history.specs.Items.{history_of}
 use Rattle.history.proofs.logs.log_length.Given as goal
 

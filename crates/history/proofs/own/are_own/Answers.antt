@@ -1,6 +1,6 @@
 use Rattle.std.proofs.Common.{Bool, subst, get_or}
-use Rattle.book.specs.Legal.{IsOwn}
-use Rattle.book.specs.declared.cut.Place.{Place}
+use Rattle.model.specs.Legal.{IsOwn}
+use Rattle.model.specs.declared.place.Place.{Place}
 use Rattle.history.specs.Items.{place_of, history_of}
 use Rattle.history.specs.Tells.{Tells}
 use Rattle.history.proofs.Eaches.{mapped_at}

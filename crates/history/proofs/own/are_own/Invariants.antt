@@ -1,7 +1,7 @@
 use Rattle.std.proofs.Common.{take}
 use Rattle.row.specs.Bags.{Each}
-use Rattle.book.specs.Legal.{IsOwn}
-use Rattle.book.specs.Sessions.{places_of}
+use Rattle.model.specs.Legal.{IsOwn}
+use Rattle.model.specs.Tables.{places_of}
 use Rattle.history.specs.Items.{history_of}
 use Rattle.history.proofs.own.are_own.Given as goal
 

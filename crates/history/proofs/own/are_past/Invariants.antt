@@ -1,9 +1,9 @@
 use Rattle.std.proofs.Common.{ℕ, ◌<◌}
 use Rattle.row.specs.Bags.{Each}
 use Rattle.plan.specs.Layouts.{view_at}
-use Rattle.book.specs.Histories.{floor_at}
-use Rattle.book.specs.Legal.{IsPast}
-use Rattle.book.specs.Sessions.{places_of}
+use Rattle.model.specs.Histories.{floor_at}
+use Rattle.model.specs.Legal.{IsPast}
+use Rattle.model.specs.Tables.{places_of}
 use Rattle.history.proofs.own.are_past.Given as goal
 
 abbrev pub invariant-loop-view : goal.invariant-loop-view

@@ -1,6 +1,6 @@
 use Rattle.std.proofs.Common.{◌≡◌, ℕ, ◌<◌}
-use Rattle.book.specs.Histories.{len_at}
-use Rattle.book.specs.Places.{source_at}
+use Rattle.model.specs.Histories.{len_at}
+use Rattle.model.specs.Places.{source_at}
 use Rattle.history.proofs.own.is_line_past.Given as goal
 
 abbrev pub invariant-loop-source : goal.invariant-loop-source

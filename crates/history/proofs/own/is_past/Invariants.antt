@@ -1,6 +1,6 @@
 use Rattle.std.proofs.Common.{◌≡◌, ℕ, ◌<◌, length}
-use Rattle.book.specs.Histories.{len_at}
-use Rattle.book.specs.Places.{sources, source_at}
+use Rattle.model.specs.Histories.{len_at}
+use Rattle.model.specs.Places.{sources, source_at}
 use Rattle.history.proofs.own.is_past.Given as goal
 
 abbrev pub invariant-loop-stage : goal.invariant-loop-stage

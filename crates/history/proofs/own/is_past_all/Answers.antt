@@ -1,4 +1,4 @@
-use Rattle.book.specs.Legal.{IsPast}
+use Rattle.model.specs.Legal.{IsPast}
 use Rattle.history.specs.Items.{place_of}
 use Rattle.history.proofs.Eaches.{mapped_at, mapped_more}
 use Rattle.history.proofs.own.is_past_all.Goals as goal

@@ -1,7 +1,7 @@
 use Rattle.std.proofs.Common.{take}
 use Rattle.row.specs.Bags.{Each}
-use Rattle.book.specs.Legal.{IsPast}
-use Rattle.book.specs.Sessions.{places_of}
+use Rattle.model.specs.Legal.{IsPast}
+use Rattle.model.specs.Tables.{places_of}
 use Rattle.history.proofs.own.is_past_all.Given as goal
 
 abbrev pub invariant-loop-place : goal.invariant-loop-place

@@ -1,5 +1,5 @@
 use Rattle.std.proofs.Common.{◌≡◌, ℕ, ◌<◌}
-use Rattle.book.specs.Places.{source_at}
+use Rattle.model.specs.Places.{source_at}
 use Rattle.history.proofs.own.is_source.Given as goal
 
 abbrev pub invariant-loop-source : goal.invariant-loop-source

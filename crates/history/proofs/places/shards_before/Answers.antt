@@ -1,6 +1,6 @@
 use Rattle.std.proofs.Common.{◌<◌, length, sym, ◌∙◌, ap, arith}
 use Rattle.plan.specs.Layouts.{TableLayout}
-use Rattle.book.proofs.PlaceLaws.{before_none, before_more}
+use Rattle.model.proofs.PlaceLaws.{before_none, before_more}
 use Rattle.history.proofs.places.shards_before.Goals as goal
 
 pub loop-place-init : goal.loop-place-init

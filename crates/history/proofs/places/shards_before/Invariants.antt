@@ -1,5 +1,5 @@
 use Rattle.std.proofs.Common.{◌≡◌, ◌*◌, ◌≤◌}
-use Rattle.book.specs.Places.{shards_before}
+use Rattle.model.specs.Places.{shards_before}
 use Rattle.history.proofs.places.shards_before.Given as goal
 
 abbrev pub invariant-loop-place : goal.invariant-loop-place

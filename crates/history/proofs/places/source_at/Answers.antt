@@ -1,7 +1,7 @@
 use Rattle.std.proofs.Common.{sym, ap, ◌∙◌, arith}
 use Rattle.plan.specs.Layouts.{SideLayout}
-use Rattle.book.specs.Places.{side_count, base_at}
-use Rattle.book.proofs.PlaceLaws.{source_left, source_count_left}
+use Rattle.model.specs.Places.{side_count, base_at}
+use Rattle.model.proofs.PlaceLaws.{source_left, source_count_left}
 use Rattle.history.proofs.Sources.{few_sources, source_past}
 use Rattle.history.proofs.places.source_at.Goals as goal
 

@@ -1,6 +1,6 @@
 use Rattle.std.proofs.Common.{sym, ap, arith}
-use Rattle.book.specs.Places.{side_count}
-use Rattle.book.proofs.PlaceLaws.{source_count, source_count_left}
+use Rattle.model.specs.Places.{side_count}
+use Rattle.model.proofs.PlaceLaws.{source_count, source_count_left}
 use Rattle.history.proofs.places.source_count.Goals as goal
 
 pub returns-in-Some-clause-count : goal.returns-in-Some-clause-count

@@ -1,6 +1,6 @@
 use Rattle.std.proofs.Common.{◌≡◌, map, take}
-use Rattle.book.specs.Logs.{rows_of}
-use Rattle.book.specs.Entries.{change_of}
+use Rattle.model.specs.Logs.{rows_of}
+use Rattle.model.specs.Entries.{change_of}
 use Rattle.plain.proofs.rows.rows_of.Given as goal
 
 abbrev pub invariant-loop-entry : goal.invariant-loop-entry

@@ -1,5 +1,5 @@
 use Rattle.std.proofs.Common.{◌≡◌, flat_map, take}
-use Rattle.book.specs.Queries.{side_share}
+use Rattle.model.specs.Queries.{side_share}
 use Rattle.plain.proofs.stage.side_rows.Given as goal
 
 abbrev pub invariant-loop-front : goal.invariant-loop-front

@@ -2,7 +2,7 @@ use Rattle.std.proofs.Common.{rules, ◌≡◌, ◌∙◌, ap, filter}
 use Rattle.std.proofs.lemmas.Fn.{filter_same}
 use Rattle.row.specs.Cells.{has_shard}
 use Rattle.plan.specs.Layouts.{table_at}
-use Rattle.book.specs.Logs.{rows_of}
+use Rattle.model.specs.Logs.{rows_of}
 use Rattle.plain.proofs.stage.stage_rows.Goals as goal
 
 pub returns : goal.returns

@@ -3,10 +3,11 @@ use Rattle.std.proofs.lemmas.Fn.{filter_same}
 use Rattle.row.specs.Cells.{has_shard}
 use Rattle.row.specs.declared.record.Record.{Record}
 use Rattle.plan.specs.Layouts.{Layout}
-use Rattle.book.specs.Cuts.{IsWithin}
+use Rattle.model.specs.Cuts.{IsWithin}
 use Rattle.book.specs.Fronts.{FrontView}
-use Rattle.book.specs.Histories.{Lengths, len_at, log_of}
-use Rattle.book.specs.Sessions.{CutView, with_length}
+use Rattle.model.specs.Histories.{Lengths, len_at, log_of}
+use Rattle.book.specs.Sessions.{CutView}
+use Rattle.model.specs.Tables.{with_length}
 use Rattle.system.proofs.Singles.{single_delta, only_base}
 use Rattle.system.proofs.view_worker.delta_of.Goals as goal
 

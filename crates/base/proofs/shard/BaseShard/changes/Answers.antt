@@ -1,5 +1,5 @@
 use Rattle.std.proofs.Common.{◌∙◌}
-use Rattle.book.specs.Entries.{change_of}
+use Rattle.model.specs.Entries.{change_of}
 use Rattle.base.proofs.Records.{takes_of, turns_of, records_at, turns_at, if_ok}
 use Rattle.base.proofs.shard.BaseShard.changes.Goals as goal
 

@@ -1,5 +1,5 @@
 use Rattle.std.proofs.Common.{ap, sym, ◌∙◌}
-use Rattle.book.specs.Logs.{inserts, deletes, updates}
+use Rattle.model.specs.Logs.{inserts, deletes, updates}
 use Rattle.row.specs.Cells.{datum_of}
 use Rattle.base.specs.Shards.{Shard}
 use Rattle.base.proofs.Checks.{own_key, held_insert, new_insert, any_update, at_front}

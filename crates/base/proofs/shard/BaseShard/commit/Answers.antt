@@ -1,5 +1,5 @@
 use Rattle.std.proofs.Common.{rules}
-use Rattle.book.specs.Entries.{change_of}
+use Rattle.model.specs.Entries.{change_of}
 use Rattle.base.proofs.Fronts.{at_next}
 use Rattle.base.proofs.shard.BaseShard.commit.Goals as goal
 

@@ -1,7 +1,7 @@
 use Rattle.std.proofs.Common.{◌≡◌, ◌+◌, ◌<◌, ap, sym, ◌∙◌, arith, length, map, slice_index_or}
 use Rattle.std.proofs.lemmas.List.{get_or-map, length-map}
 use Rattle.crossbeam_utils.specs.Padded.{padded_value}
-use Rattle.book.specs.Places.{base_count}
+use Rattle.model.specs.Places.{base_count}
 use Rattle.book.proofs.Words.{length_words, word_at}
 use Rattle.book.proofs.book.Book.word.Goals as goal
 

@@ -1,6 +1,6 @@
 use Rattle.std.proofs.Common.{ap, sym, ◌∙◌}
 use Rattle.book.specs.Pages.{history_of}
-use Rattle.book.specs.Cuts.{fronts_of}
+use Rattle.model.specs.Cuts.{fronts_of}
 use Rattle.book.proofs.Advances.{fronts_grown}
 use Rattle.book.proofs.cut.Cut.agrees.Goals as goal
 

@@ -1,8 +1,8 @@
 use Rattle.std.proofs.Common.{◌≡◌, ℕ, map, replicate, ap, sym, ◌∙◌, subst}
 use Rattle.plan.specs.Layouts.{Layout}
-use Rattle.book.specs.Cuts.{IsWithin}
+use Rattle.model.specs.Cuts.{IsWithin}
 use Rattle.book.specs.Fronts.{FrontView}
-use Rattle.book.specs.Histories.{Lengths}
+use Rattle.model.specs.Histories.{Lengths}
 use Rattle.book.specs.Pages.{history_of}
 use Rattle.book.proofs.Lines.{line_within}
 use Rattle.book.proofs.cut.Cut.even.Given as given

@@ -1,6 +1,6 @@
 use Rattle.std.proofs.Common.{◌≡◌, map, replicate, length, ap, ◌∙◌}
 use Rattle.book.specs.Fronts.{FrontView}
-use Rattle.book.specs.Places.{sources}
+use Rattle.model.specs.Places.{sources}
 use Rattle.book.proofs.Lines.{zero_lens}
 use Rattle.book.proofs.cut.Cut.zeros.Goals as goal
 

@@ -1,9 +1,10 @@
 use Rattle.std.proofs.Common.{◌≡◌, map, ap, sym, ◌∙◌, subst}
 use Rattle.plan.specs.Layouts.{Layout}
 use Rattle.book.specs.Fronts.{FrontView}
-use Rattle.book.specs.Histories.{Floors}
+use Rattle.model.specs.Histories.{Floors}
 use Rattle.book.specs.Pages.{history_of}
-use Rattle.book.specs.Sessions.{AreWithin, even_floors}
+use Rattle.book.specs.Sessions.{AreWithin}
+use Rattle.model.specs.Tables.{even_floors}
 use Rattle.book.proofs.Lines.{even_within}
 use Rattle.book.proofs.cut.Cuts.even.Given as given
 use Rattle.book.proofs.cut.Cuts.even.Goals as goal

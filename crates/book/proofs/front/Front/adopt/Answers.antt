@@ -1,8 +1,8 @@
 use Rattle.std.proofs.Common.{◌≡◌, ◌≤◌, ap, arith, length, ◌⊎◌}
 use mathlib.Core.List.{IsPrefix}
-use Rattle.book.specs.Histories.{log_of}
+use Rattle.model.specs.Histories.{log_of}
 use Rattle.book.specs.Pages.{history_of}
-use Rattle.book.proofs.Prefixes.{prefix_either}
+use Rattle.model.proofs.Prefixes.{prefix_either}
 use Rattle.book.proofs.Steps.{seen_more}
 use Rattle.book.proofs.Replies.{longer_both, log_adopted, authors_adopted}
 use Rattle.book.proofs.front.Front.adopt.Goals as goal

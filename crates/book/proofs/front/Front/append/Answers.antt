@@ -1,6 +1,6 @@
 use Rattle.std.proofs.Common.{sym, arith, refl}
-use Rattle.book.specs.Histories.{write}
-use Rattle.book.specs.Entries.{change_of}
+use Rattle.model.specs.Histories.{write}
+use Rattle.model.specs.Entries.{change_of}
 use Rattle.book.proofs.Steps.{told_yes, told_no}
 use Rattle.book.proofs.Fronts.{appended, appended_front, moved, may_write, front_count}
 use Rattle.book.proofs.front.Front.append.Goals as goal

@@ -1,7 +1,7 @@
 use Rattle.std.proofs.Common.{◌≡◌, ◌≤◌, arith, length}
-use Rattle.book.specs.Histories.{log_of}
+use Rattle.model.specs.Histories.{log_of}
 use Rattle.book.specs.Pages.{history_of}
-use Rattle.book.specs.Entries.{change_of}
+use Rattle.model.specs.Entries.{change_of}
 use Rattle.book.proofs.Replies.{stands_after}
 use Rattle.book.proofs.front.Front.settle.Goals as goal
 

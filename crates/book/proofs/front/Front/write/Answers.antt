@@ -1,5 +1,5 @@
 use Rattle.std.proofs.Common.{sym}
-use Rattle.book.specs.Entries.{change_of}
+use Rattle.model.specs.Entries.{change_of}
 use Rattle.book.proofs.Replies.{written}
 use Rattle.book.proofs.front.Front.write.Goals as goal
 

@@ -1,6 +1,6 @@
 use mathlib.Core.List.{IsPrefix}
 use Rattle.book.specs.Pages.{history_of}
-use Rattle.book.proofs.Prefixes.{prefix_either, prefix_trans}
+use Rattle.model.proofs.Prefixes.{prefix_either, prefix_trans}
 use Rattle.book.proofs.Steps.{seen_more}
 use Rattle.book.proofs.Replies.{longer_within}
 use Rattle.book.proofs.part.Part.meet.Goals as goal

@@ -1,5 +1,5 @@
 use Rattle.std.proofs.Common.{◌+◌, ap, sym, refl}
-use Rattle.book.proofs.Prefixes.{prefix_trans}
+use Rattle.model.proofs.Prefixes.{prefix_trans}
 use Rattle.book.proofs.Steps.{seen_more, told_yes, told_no}
 use Rattle.book.proofs.Sessions.{session_later, read_asked, read_told, answered, stolen}
 use Rattle.book.proofs.session.SessionWord.answer.Goals as goal

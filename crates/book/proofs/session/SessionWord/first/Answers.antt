@@ -1,4 +1,4 @@
-use Rattle.book.proofs.Zeros.{zero_session}
+use Rattle.book.proofs.Sessions.{zero_session}
 use Rattle.book.proofs.session.SessionWord.first.Goals as goal
 
 pub invariant_of-result : goal.invariant_of-result

@@ -1,8 +1,8 @@
 use Rattle.std.proofs.Common.{◌≡◌, ◌<◌, ◌++◌, ◌∷◌, [], sym, ◌∙◌, subst}
 use Rattle.row.specs.Bags.{Each}
-use Rattle.book.specs.Entries.{change_of}
-use Rattle.book.specs.Histories.{Author}
-use Rattle.book.specs.Logs.{Change}
+use Rattle.model.specs.Entries.{change_of}
+use Rattle.model.specs.Histories.{Author}
+use Rattle.model.specs.Logs.{Change}
 use Rattle.book.specs.Fronts.{FrontView, entries, authors}
 use Rattle.base.specs.Shards.{IsAt}
 use Rattle.domain.proofs.Calls.{absent, rows_refusal, same_refusal, domain_next}

@@ -1,5 +1,5 @@
 use Rattle.std.proofs.Common.{◌≡◌, sym, ◌∙◌, Some, None}
-use Rattle.book.specs.Entries.{change_of}
+use Rattle.model.specs.Entries.{change_of}
 use Rattle.book.specs.Fronts.{entries}
 use Rattle.domain.specs.Bases.{refusal_at}
 use Rattle.domain.proofs.Calls.{shard_refusal, refused_verdict, free_verdict, declines_refused, declines_memory, both_err}

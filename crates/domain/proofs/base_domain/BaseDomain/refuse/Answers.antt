@@ -1,5 +1,5 @@
 use Rattle.std.proofs.Common.{ap, sym, ◌∙◌, inl, inr}
-use Rattle.book.specs.Entries.{change_of}
+use Rattle.model.specs.Entries.{change_of}
 use Rattle.book.specs.Fronts.{FrontView, entries, authors}
 use Rattle.domain.proofs.Calls.{decided}
 use Rattle.domain.proofs.base_domain.BaseDomain.refuse.Goals as goal

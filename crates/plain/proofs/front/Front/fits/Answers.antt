@@ -1,8 +1,8 @@
 use Rattle.std.proofs.Common.{rules, ◌∙◌, sym}
 use Rattle.std.proofs.lemmas.Iterator.{YieldsList-from_slice}
 use Rattle.std.proofs.lemmas.Iterator.Search.{all_from_yields_List}
-use Rattle.book.specs.Logs.{fits}
-use Rattle.book.specs.Entries.{change_of}
+use Rattle.model.specs.Logs.{fits}
+use Rattle.model.specs.Entries.{change_of}
 use Rattle.plain.proofs.Loops.{list_all-map}
 use Rattle.plain.proofs.front.Front.fits.Goals as goal
 

@@ -1,5 +1,5 @@
 use Rattle.std.proofs.Common.{◌∙◌, inr, refl}
-use Rattle.book.specs.Entries.{change_of}
+use Rattle.model.specs.Entries.{change_of}
 use Rattle.system.proofs.Histories.{adopted_decides, decided_whole}
 use Rattle.system.proofs.call.Call.untaken.Goals as goal
 

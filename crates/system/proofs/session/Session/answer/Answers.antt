@@ -1,8 +1,9 @@
 use Rattle.std.proofs.Common.{◌≡◌, ℕ, ◌+◌, true, sym, ap, ◌∙◌, arith, inl, inr, refl}
-use Rattle.book.proofs.Prefixes.{prefix_trans}
+use Rattle.model.proofs.Prefixes.{prefix_trans}
 use Rattle.row.specs.Cells.{datum_of}
-use Rattle.book.specs.Histories.{Floors}
-use Rattle.book.specs.Sessions.{CutView, with_floor}
+use Rattle.model.specs.Histories.{Floors}
+use Rattle.book.specs.Sessions.{CutView}
+use Rattle.model.specs.Tables.{with_floor}
 use Rattle.view.proofs.Rises.{later_self}
 use Rattle.system.proofs.Callers.{caller_later}
 use Rattle.system.proofs.Fences.{added_grows}

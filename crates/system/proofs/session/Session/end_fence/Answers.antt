@@ -1,6 +1,6 @@
 use Rattle.std.proofs.Common.{◌+◌, true, ◌∙◌, arith}
-use Rattle.book.specs.Sessions.{places_of}
-use Rattle.book.proofs.Prefixes.{prefix_trans}
+use Rattle.model.specs.Tables.{places_of}
+use Rattle.model.proofs.Prefixes.{prefix_trans}
 use Rattle.view.proofs.Rises.{later_self}
 use Rattle.system.proofs.Callers.{caller_later}
 use Rattle.system.proofs.Looks.{looks_fenced, looks_later}

@@ -1,9 +1,9 @@
 use Rattle.std.proofs.Common.{◌≡◌, ap, ◌∙◌, refl, None, Some}
 use Rattle.plan.specs.Layouts.{table_at, table_named}
 use Rattle.row.specs.Cells.{shard}
-use Rattle.book.specs.Logs.{inserts, key_of}
-use Rattle.book.specs.Places.{base_at}
-use Rattle.book.specs.Refusals.{write_refusal}
+use Rattle.model.specs.Logs.{inserts, key_of}
+use Rattle.model.specs.Places.{base_at}
+use Rattle.model.specs.Refusals.{write_refusal}
 use Rattle.system.specs.Inserts.{base_of}
 use Rattle.system.proofs.Callers.{untaken_write}
 use Rattle.system.proofs.session.Session.insert_row.Goals as goal

@@ -1,5 +1,5 @@
 use Rattle.std.proofs.Common.{◌≡◌, None, replicate, arith, rules}
-use Rattle.book.specs.Places.{base_count}
+use Rattle.model.specs.Places.{base_count}
 use Rattle.system.proofs.Callers.{caller_new}
 use Rattle.system.proofs.Looks.{looks_new}
 use Rattle.system.proofs.session.Session.new.Goals as goal

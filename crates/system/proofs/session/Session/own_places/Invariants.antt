@@ -1,5 +1,5 @@
 use Rattle.std.proofs.Common.{◌≡◌, flat_map, take}
-use Rattle.book.specs.Sessions.{places_of}
+use Rattle.model.specs.Tables.{places_of}
 use Rattle.system.specs.Callers.{accepted_at}
 use Rattle.system.specs.Fences.{place_of}
 use Rattle.system.proofs.session.Session.own_places.Given as goal

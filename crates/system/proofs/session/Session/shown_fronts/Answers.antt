@@ -1,6 +1,6 @@
 use Rattle.std.proofs.Common.{◌≡◌, ℕ, ◌+◌, ◌≤◌, ◌++◌, ◌∷◌, [], length, take, sym, ap, ◌∙◌, arith}
 use Rattle.std.proofs.lemmas.List.{length-append}
-use Rattle.book.specs.Histories.{len_at}
+use Rattle.model.specs.Histories.{len_at}
 use Rattle.book.specs.Sessions.{CutView}
 use Rattle.system.specs.Fences.{AreLonger}
 use Rattle.system.proofs.Fences.{bases_of, bases_next, longer_next}

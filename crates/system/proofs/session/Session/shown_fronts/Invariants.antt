@@ -1,6 +1,6 @@
 use Rattle.std.proofs.Common.{◌≡◌, ℕ, ◌<◌, length, map, slice_index_or, take}
 use Rattle.book.specs.Fronts.{FrontView}
-use Rattle.book.specs.Histories.{len_at}
+use Rattle.model.specs.Histories.{len_at}
 use Rattle.system.specs.Fences.{AreLonger}
 use Rattle.system.proofs.session.Session.shown_fronts.Given as goal
 

@@ -1,5 +1,5 @@
 use Rattle.std.proofs.Common.{◌+◌, arith}
-use Rattle.book.specs.Entries.{change_of}
+use Rattle.model.specs.Entries.{change_of}
 use Rattle.view.proofs.Rises.{later_self}
 use Rattle.system.proofs.Looks.{looks_later}
 use Rattle.system.proofs.Callers.{caller_later, caller_taken, taken, answer_grows}

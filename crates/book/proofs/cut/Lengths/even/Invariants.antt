@@ -1,5 +1,0 @@
-use Rattle.std.proofs.Common.{◌≡◌, map, replicate}
-use Rattle.book.proofs.cut.Lengths.even.Given as goal
-
-abbrev pub invariant-loop-stage : goal.invariant-loop-stage
-invariant-loop-stage l = map (λ v. v.items) l.lines.items ≡ replicate l._stage l.line

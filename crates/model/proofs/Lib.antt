@@ -1,0 +1,12 @@
+pub mod Lists
+pub mod LogLaws
+pub mod Growth
+pub mod Prefixes
+pub mod PlaceLaws
+pub mod CutLaws
+pub mod Zeros
+pub mod SameLines
+pub mod Printing
+pub mod Samples
+pub mod MoreSamples
+pub mod LegalSamples

@@ -1,0 +1,10 @@
+pub mod Logs
+pub mod Entries
+pub mod Places
+pub mod Queries
+pub mod Histories
+pub mod Printed
+pub mod Cuts
+pub mod Tables
+pub mod Refusals
+pub mod Legal

@@ -1,0 +1,18 @@
+-- Printed cuts.
+use Rattle.std.specs.Prelude.{ℕ, List, [], ◌∷◌, ◌++◌, map}
+use Rattle.std.specs.Fmt.{decimal}
+use Rattle.model.specs.Histories.{Lengths}
+
+-- the words with the byte between each two
+abbrev pub joined : ℕ → List (List ℕ) → List ℕ
+joined byte [] = []
+joined byte (word ∷ []) = word
+joined byte (word ∷ next ∷ words) = word ++ byte ∷ joined byte (next ∷ words)
+
+-- the lengths of a stage shard, with a comma between each two
+abbrev pub printed_line : List ℕ → List ℕ
+printed_line line = joined 44 (map decimal line)
+
+-- the stage shards, with a slash between each two
+abbrev pub printed_cut : Lengths → List ℕ
+printed_cut cut = joined 47 (map printed_line cut)

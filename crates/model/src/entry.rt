@@ -1,0 +1,63 @@
+//! Entries of a log.
+ghost use Rattle.std.specs.Prelude.{◌≡◌, ◌<◌, ◌↔◌, length, IfOk, IsTrue};
+ghost use Rattle.row.specs.Cells.{datum_of, cell_at};
+ghost use Rattle.model.specs.Logs.{fits, key_of};
+ghost use Rattle.model.specs.Entries.{change_of};
+
+use plan::table::Table;
+use row::row::Row;
+use row::value::Value;
+use std::alloc::{AllocError, Global};
+
+/// An entry of a log: a row that comes, the key of a row that goes, or a row in place of the one
+/// of the same key.
+#[derive(Drop)]
+pub enum Entry {
+    Insert(Row),
+    Delete(Value),
+    Update(Row),
+}
+
+impl Entry {
+    /// Whether the entry's row is one of the table, or its key a cell of the key column.
+    pub fn fits(&self, table: &Table) -> bool
+        requires { table.now.key < length table.now.columns }
+        ensures { result ≡ fits table.now (change_of self.now) }
+    {
+        match self {
+            Entry::Insert(row) => table.takes(row),
+            Entry::Delete(key) => table.takes_key(key),
+            Entry::Update(row) => table.takes(row),
+        }
+    }
+
+    /// Whether the two are one entry. Cost: the length of the row.
+    pub fn is_same(&self, other: &Entry) -> bool
+        ensures same { IsTrue result → change_of self.now ≡ change_of other.now }
+        ensures sure { change_of self.now ≡ change_of other.now → IsTrue result }
+    {
+        match (self, other) {
+            (Entry::Insert(row), Entry::Insert(another)) => same_row(row, another),
+            (Entry::Delete(key), Entry::Delete(another)) => key.is_same(another),
+            (Entry::Update(row), Entry::Update(another)) => same_row(row, another),
+            _ => false,
+        }
+    }
+
+    /// A second entry that is equal. Copies its row or key.
+    pub fn copied(&self, alloc: Global) -> Result<Entry, AllocError>
+        ensures { IfOk result (λ e. change_of e ≡ change_of self.now) }
+    {
+        match self {
+            Entry::Insert(row) => Ok(Entry::Insert(row.copied(alloc)?)),
+            Entry::Delete(key) => Ok(Entry::Delete(key.copied(alloc)?)),
+            Entry::Update(row) => Ok(Entry::Update(row.copied(alloc)?)),
+        }
+    }
+}
+
+fn same_row(row: &Row, other: &Row) -> bool
+    ensures { IsTrue result ↔ (row.now ≡ other.now) }
+{
+    row == other
+}

@@ -1,0 +1,85 @@
+//! Floors of a session.
+ghost use Rattle.std.specs.Prelude.{◌≡◌, ◌<◌, [], length, slice_index_or, replicate, IfOk, ℕ};
+ghost use Rattle.model.specs.Histories.{floor_at};
+ghost use Rattle.model.specs.Tables.{with_floor, even_floors, IsTable};
+
+use crate::lengths::Lengths;
+use plan::plan::Plan;
+use std::alloc::{AllocError, Global};
+use std::marker::Model;
+
+/// A floor for each shard of each view.
+#[derive(Drop)]
+pub struct Floors {
+    rows: Vec<Vec<Lengths>>,
+}
+
+impl Model for Floors {
+    ghost use Rattle.std.specs.Prelude.{List, map};
+    ghost use Rattle.model.specs.Histories.{Lengths as LengthsView};
+
+    ghost Value = { List (List LengthsView) };
+
+    ghost view = { λ f. map (λ v. v.items) f.rows.items };
+}
+
+impl Floors {
+    /// All zeros.
+    pub fn zeros(alloc: Global, plan: &Plan) -> Result<Floors, AllocError>
+        ensures table { IfOk result (λ f. IsTable plan.now f) }
+        ensures zeros { IfOk result (λ f. (v j : ℕ) → floor_at f v j ≡ []) }
+    {
+        let mut rows = Vec::new(alloc);
+        for view in 0..plan.views() {
+            rows.push(zero_row(alloc, plan.view(view).shards())?)?;
+        }
+        Ok(Floors { rows })
+    }
+
+    /// The same line for each stage shard, at each shard of each view. Refused for want of memory
+    /// alone.
+    pub fn even(alloc: Global, plan: &Plan, line: &[u64]) -> Result<Floors, AllocError>
+        ensures { IfOk result (λ f. f ≡ even_floors plan.now line.now) }
+    {
+        let mut rows = Vec::new(alloc);
+        for view in 0..plan.views() {
+            rows.push(even_row(alloc, plan.view(view).shards(), plan.stages(), line)?)?;
+        }
+        Ok(Floors { rows })
+    }
+
+    /// Sets the floor at a shard of a view.
+    pub fn set(&mut self, view: usize, shard: usize, cut: Lengths)
+        requires view { view < length self.old }
+        requires shard { shard < length (slice_index_or self.old view []) }
+        ensures { self.new ≡ with_floor self.old view shard cut }
+    {
+        let row = &mut self.rows[view];
+        row[shard] = cut;
+    }
+}
+
+fn zero_row(alloc: Global, count: usize) -> Result<Vec<Lengths>, AllocError>
+    ensures { IfOk result (λ v. v.items ≡ replicate count []) }
+{
+    let mut row = Vec::new(alloc);
+    for _shard in 0..count {
+        row.push(Lengths::empty(alloc))?;
+    }
+    Ok(row)
+}
+
+fn even_row(
+    alloc: Global,
+    count: usize,
+    stages: usize,
+    line: &[u64],
+) -> Result<Vec<Lengths>, AllocError>
+    ensures { IfOk result (λ v. v.items ≡ replicate count (replicate stages line.now)) }
+{
+    let mut row = Vec::new(alloc);
+    for _shard in 0..count {
+        row.push(Lengths::even(alloc, stages, line)?)?;
+    }
+    Ok(row)
+}

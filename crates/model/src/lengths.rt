@@ -1,0 +1,87 @@
+//! Lengths of the sources' logs, one for each stage shard and source.
+ghost use Rattle.std.specs.Prelude.{◌≡◌, ◌≢◌, ◌<◌, [], IsTrue, IsFalse, length, replicate, slice_index_or, IfOk};
+ghost use Rattle.model.specs.Histories.{len_at};
+ghost use Rattle.model.specs.Tables.{with_length};
+
+use std::alloc::{AllocError, Global};
+use std::marker::Model;
+
+/// A length for each stage shard and each source.
+#[derive(Drop)]
+pub struct Lengths {
+    pub(crate) lines: Vec<Vec<u64>>,
+}
+
+impl Model for Lengths {
+    ghost use Rattle.std.specs.Prelude.{map};
+    ghost use Rattle.model.specs.Histories.{Lengths as LengthsView};
+
+    ghost Value = { LengthsView };
+
+    ghost view = { λ c. map (λ l. l.items) c.lines.items };
+}
+
+impl Lengths {
+    /// No lengths, which are all zeros.
+    pub fn empty(alloc: Global) -> Lengths
+        ensures { result ≡ [] }
+    {
+        Lengths {
+            lines: Vec::new(alloc),
+        }
+    }
+
+    /// The same lengths of the sources for each of so many stage shards. Refused for want of
+    /// memory alone.
+    pub fn even(alloc: Global, stages: usize, line: &[u64]) -> Result<Lengths, AllocError>
+        ensures { IfOk result (λ c. c ≡ replicate stages line.now) }
+    {
+        let mut lines = Vec::new(alloc);
+        for _stage in 0..stages {
+            lines.push(Vec::from_slice(alloc, line)?)?;
+        }
+        Ok(Lengths { lines })
+    }
+
+    /// The same lengths in memory of their own. Refused for want of memory alone.
+    pub fn again(&self, alloc: Global) -> Result<Lengths, AllocError>
+        ensures { IfOk result (λ c. c ≡ self.now) }
+    {
+        let mut lines = Vec::new(alloc);
+        for line in &self.lines {
+            lines.push(Vec::from_slice(alloc, line.as_slice())?)?;
+        }
+        Ok(Lengths { lines })
+    }
+
+    /// The length of a source at a stage shard, 0 where there is none.
+    pub fn len(&self, stage: usize, source: usize) -> u64
+        ensures { result ≡ len_at self.now stage source }
+    {
+        let Some(line) = self.lines.get(stage) else {
+            return 0;
+        };
+        match line.get(source) {
+            Some(len) => *len,
+            None => 0,
+        }
+    }
+
+    /// Whether the two cuts have the same lengths.
+    pub fn is_same(&self, other: &Lengths) -> bool
+        ensures same { IsTrue result → self.now ≡ other.now }
+        ensures other { IsFalse result → self.now ≢ other.now }
+    {
+        self.lines == other.lines
+    }
+
+    /// Sets one length.
+    pub fn set(&mut self, stage: usize, source: usize, len: u64)
+        requires stage { stage < length self.old }
+        requires source { source < length (slice_index_or self.old stage []) }
+        ensures { self.new ≡ with_length self.old stage source len }
+    {
+        let line = &mut self.lines[stage];
+        line[source] = len;
+    }
+}
