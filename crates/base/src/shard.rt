@@ -128,9 +128,9 @@ impl BaseShard {
     }
 
     /// What an entry that `check` allows changes in the rows: plus the row of an Insert, minus the
-    /// row of a Delete's key, and for an Update minus the old row of its key, then plus the new one.
-    /// Refused for want of memory alone. One look-up of a key, but none for an Insert, and a copy
-    /// of each of these rows, at most two.
+    /// row of a Delete's key, and for an Update minus the old row of its key, then plus the new
+    /// one. Errors: memory only. One look-up of a key, but none for an Insert, and a copy of each
+    /// of these rows, at most two.
     pub fn changes(&self, alloc: Global, entry: &Entry) -> Result<Vec<Record>, AllocError>
         requires key { HasKey self.now.key (change_of entry.now) }
         requires lawful { refusal_over self.now.key self.now.limit self.now.rows self.now.length (change_of entry.now) ≡ None }

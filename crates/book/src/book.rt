@@ -6,9 +6,9 @@ ghost use Rattle.model.specs.Places.{base_count};
 
 use crate::front::Front;
 use crate::law::{Law, LogPage, Naming};
-use model::places::base_count;
 use crossbeam_utils::CachePadded;
 use logbook::{Opening, Pens, Seen, Start, Word};
+use model::places::base_count;
 use plan::plan::Plan;
 use std::alloc::{AllocError, Global};
 use std::marker::{Model, PhantomData};
@@ -70,7 +70,7 @@ impl<J: Naming> Model for Book<J> {
 }
 
 impl Opened {
-    /// A book of this plan for so many sessions, at most 16. Refused for want of memory alone.
+    /// A book of this plan for so many sessions, at most 16. Errors: memory only.
     pub fn new(alloc: Global, plan: &Plan, sessions: usize) -> Result<Opened, AllocError>
         requires few { sessions < 17 }
         ensures { IfOk result (λ o. (o.plan ≡ plan.now) × (o.sessions ≡ sessions)) }

@@ -10,14 +10,14 @@ ghost use Rattle.model.specs.Places.{base_count, sources as sources_of, source_a
 ghost use Rattle.book.specs.Sessions.{fronts};
 ghost use Rattle.model.specs.Tables.{with_length, with_front, even_floors};
 
-use model::floors::Floors;
 use crate::front::Front;
 use crate::law::{Law, LogPage, Naming};
 use crate::part::Part;
-use model::places::sources;
 use crate::step::learn;
 use logbook::Seen;
+use model::floors::Floors;
 use model::lengths::Lengths;
+use model::places::sources;
 use plan::plan::Plan;
 use std::alloc::{AllocError, Global};
 use std::marker::{Model, PhantomData};
@@ -65,8 +65,8 @@ impl<J: Naming> Model for Cuts<J> {
 }
 
 impl<J: Naming> Cuts<J> {
-    /// For each shard of each view the cut at which each stage shard has these fronts, one of
-    /// each source. Refused for want of memory alone.
+    /// For each shard of each view the cut at which each stage shard has these fronts, one of each
+    /// source. Errors: memory only.
     pub fn even(
         alloc: Global,
         plan: &Plan,
@@ -111,8 +111,7 @@ fn line_of_fronts<J: Naming>(
 }
 
 impl<J: Naming> Cut<J> {
-    /// The cut at which each stage shard has these fronts, one of each source. Refused for want of
-    /// memory alone.
+    /// The cut at which each stage shard has these fronts, one of each source. Errors: memory only.
     pub fn even(
         alloc: Global,
         plan: &Plan,
@@ -141,7 +140,7 @@ impl<J: Naming> Cut<J> {
         &self.lengths
     }
 
-    /// A copy. Refused for want of memory alone.
+    /// A copy. Errors: memory only.
     pub fn again(&self, alloc: Global) -> Result<Cut<J>, AllocError>
         ensures { IfOk result (λ c. c ≡ self.now) }
     {
@@ -163,8 +162,7 @@ impl<J: Naming> Cut<J> {
         self.lengths.is_same(&other.lengths)
     }
 
-    /// The cut at which each stage shard has the empty front of each source. Refused for want of
-    /// memory alone.
+    /// The cut at which each stage shard has the empty front of each source. Errors: memory only.
     pub fn zeros(alloc: Global, plan: &Plan, part: &Part<J>) -> Result<Cut<J>, AllocError>
         requires plan { plan.now ≡ J.plan }
         ensures lengths { IfOk result (λ c. c.lengths ≡ replicate J.plan.stages (replicate (length (sources_of J.plan)) 0)) }

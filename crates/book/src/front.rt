@@ -12,11 +12,11 @@ ghost use Rattle.book.specs.Pages.{opens, IsLogOf, history_of};
 ghost use Rattle.model.specs.Places.{base_count, layout_of, shard_of};
 
 use crate::book::Book;
-use model::entry::Entry;
 use crate::law::{Add, Law, LogPage, Naming};
 use crate::part::Part;
 use crate::step::{learn, look_at, try_add};
 use logbook::{Plain, Seen};
+use model::entry::Entry;
 use std::marker::{Model, PhantomData};
 
 /// A beginning of the log of one base shard, and the history that was seen with it.

@@ -9,5 +9,3 @@ pub mod part;
 pub mod reply;
 pub mod session;
 mod step;
-#[cfg(test)]
-mod tests;

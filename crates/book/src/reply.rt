@@ -12,12 +12,12 @@ ghost use Rattle.model.specs.Places.{layout_of, shard_of};
 ghost use Rattle.book.specs.Replies.{WrittenView, IsAfter, IsWhole, longer};
 
 use crate::book::Book;
-use model::entry::Entry;
 use crate::front::Front;
 use crate::law::{Law, LogPage, Naming};
 use crate::part::Part;
 use crate::step::{learn, look_at};
 use logbook::Seen;
+use model::entry::Entry;
 use std::marker::{Model, PhantomData};
 
 /// The reply to an accepted write.

@@ -13,14 +13,14 @@ ghost use Rattle.model.specs.Tables.{with_floor, places_of};
 
 use crate::book::Book;
 use crate::cut::{Cut, Cuts};
-use model::lengths::Lengths;
-use model::place::Place;
-use model::floors::Floors;
 use crate::front::Front;
 use crate::law::{Add, Law, LogPage, Naming};
 use crate::part::Part;
 use crate::step::{learn, try_add};
 use logbook::{Plain, Seen};
+use model::floors::Floors;
+use model::lengths::Lengths;
+use model::place::Place;
 use plan::plan::Plan;
 use row::row::Row;
 use row::value::Value;

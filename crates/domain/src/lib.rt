@@ -4,5 +4,3 @@
 pub mod base_domain;
 pub mod message;
 pub mod packet;
-#[cfg(test)]
-mod tests;

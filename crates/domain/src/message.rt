@@ -7,10 +7,10 @@ ghost use Rattle.model.specs.Places.{base_count, layout_of, shard_of};
 ghost use Rattle.base.specs.Shards.{HasKey};
 ghost use Rattle.domain.specs.Messages.{IsAnswered, last_number};
 
-use model::entry::Entry;
 use book::front::Front;
 use book::law::Naming;
 use book::reply::Written;
+use model::entry::Entry;
 use row::refused::Refused;
 use std::marker::{Model, PhantomData};
 

@@ -3,6 +3,7 @@ pub mod LogLaws
 pub mod Growth
 pub mod Prefixes
 pub mod PlaceLaws
+pub mod Sources
 pub mod CutLaws
 pub mod Zeros
 pub mod SameLines

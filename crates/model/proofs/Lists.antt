@@ -1,5 +1,6 @@
--- Lists: one more element, and a part of each.
-use Rattle.std.proofs.Common.{◌≡◌, ℕ, zero, suc, ◌<◌, List, [], ◌∷◌, ◌++◌, length, map, slice_index_or, ap, arith}
+-- Lists: what holds of each element, one more element, and a part of each.
+use Rattle.std.proofs.Common.{◌≡◌, ℕ, zero, suc, ◌+◌, ◌<◌, ◌≤◌, List, [], ◌∷◌, ◌++◌, map, length, take, get_or, slice_index_or, refl, ap, arith, subst, sym, ◌⊎◌, inl, inr}
+use Rattle.std.proofs.lemmas.List.{take_more, take_all, map-append}
 use Rattle.row.specs.Bags.{Each}
 
 pub each_push : {X : Type 0} (P : X → Type 0) (xs : List X) (y : X) → Each P xs → P y → Each P (xs ++ y ∷ [])
@@ -11,3 +12,58 @@ pub read_map : {A B : Type 0} (f : A → B) (l : List A) (i : ℕ) (x : A) (d : 
 read_map f [] i x d lt is = absurd (omega arith)
 read_map f (y ∷ l) zero x d lt is = ap f is
 read_map f (y ∷ l) (suc i) x d lt is = read_map f l i x d (omega arith) is
+
+-- at a place
+pub each_at : {X : Type 0} (P : X → Type 0) (xs : List X) (i : ℕ) (d : X) → Each P xs → i < length xs → P (get_or xs i d)
+each_at P [] i d h lt = absurd (omega arith)
+each_at P (x ∷ xs) zero d h lt = h.0
+each_at P (x ∷ xs) (suc i) d h lt = each_at P xs i d h.1 (omega arith)
+
+-- of the next one too
+pub each_more : {X : Type 0} (P : X → Type 0) (xs : List X) (i : ℕ) (x : X) → i < length xs → x ≡ get_or xs i x → Each P (take i xs) → P x → Each P (take (i + 1) xs)
+each_more {X} P xs i x lt is h k = rw (take_more xs i x lt, ← is) (each_push P (take i xs) x h k)
+
+-- of all of them
+pub each_whole : {X : Type 0} (P : X → Type 0) (xs : List X) (i : ℕ) → length xs ≤ i → Each P (take i xs) → Each P xs
+each_whole {X} P xs i le h = subst (λ (l : List X). Each P l) (take_all i xs le) h
+
+-- of the one at the place
+pub each_one : {X : Type 0} (P : X → Type 0) (xs : List X) (i : ℕ) (x : X) → i < length xs → x ≡ get_or xs i x → Each P xs → P x
+each_one {X} P xs i x lt is h = subst P (sym is) (each_at P xs i x h lt)
+
+-- past the end stands what is asked for there
+pub past_end : {X : Type 0} (xs : List X) (i : ℕ) (d : X) → length xs ≤ i → get_or xs i d ≡ d
+past_end [] i d le = refl
+past_end (x ∷ xs) zero d le = absurd (omega arith)
+past_end (x ∷ xs) (suc i) d le = past_end xs i d (omega arith)
+
+-- before it, that does not matter
+pub any_end : {X : Type 0} (xs : List X) (i : ℕ) (d e : X) → i < length xs → get_or xs i d ≡ get_or xs i e
+any_end [] i d e lt = absurd (omega arith)
+any_end (x ∷ xs) zero d e lt = refl
+any_end (x ∷ xs) (suc i) d e lt = any_end xs i d e (omega arith)
+
+-- below, or not
+pub below_or_not : (a b : ℕ) → (a < b) ⊎ (b ≤ a)
+below_or_not zero zero = inr (omega arith)
+below_or_not zero (suc b) = inl (omega arith)
+below_or_not (suc a) zero = inr (omega arith)
+below_or_not (suc a) (suc b) = elim (below_or_not a b) as (λ _. (suc a < suc b) ⊎ (suc b ≤ suc a)) [ inl lt ↦ inl (omega arith) | inr le ↦ inr (omega arith) ]
+
+-- what holds at each place holds of each
+pub each_of : {X : Type 0} (P : X → Type 0) (d : X) (xs : List X) → ((i : ℕ) → i < length xs → P (get_or xs i d)) → Each P xs
+each_of P d [] h = tt
+each_of P d (x ∷ xs) h = (h 0 (omega arith), each_of P d xs (λ i lt. h (suc i) (omega arith)))
+
+-- ---- along a list that is mapped
+module _ {X Y : Type 0} (f : X → Y) (P : Y → Type 0) where
+  pub mapped_more : (xs : List X) (i : ℕ) (d : X) → i < length xs → Each P (map f (take i xs)) → P (f (get_or xs i d)) → Each P (map f (take (i + 1) xs))
+  mapped_more xs i d lt h k = rw (take_more xs i d lt, map-append f (take i xs) (get_or xs i d ∷ [])) (each_push P (map f (take i xs)) (f (get_or xs i d)) h k)
+
+  pub mapped_at : (xs : List X) (i : ℕ) (d : X) → i < length xs → Each P (map f xs) → P (f (get_or xs i d))
+  mapped_at [] i d lt h = absurd (omega arith)
+  mapped_at (x ∷ xs) zero d lt h = h.0
+  mapped_at (x ∷ xs) (suc i) d lt h = mapped_at xs i d (omega arith) h.1
+
+  pub mapped_whole : (xs : List X) (i : ℕ) → length xs ≤ i → Each P (map f (take i xs)) → Each P (map f xs)
+  mapped_whole xs i le h = subst (λ (l : List X). Each P (map f l)) (take_all i xs le) h

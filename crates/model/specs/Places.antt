@@ -1,5 +1,5 @@
 -- Numbers of base shards: those of the first table in order, then those of the next. Sources are some of them.
-use Rattle.std.specs.Prelude.{ℕ, zero, suc, ◌+◌, ◌-◌, nat_lt, cond, List, [], ◌∷◌, ◌++◌, length, Option, Some, None, slice_index_or}
+use Rattle.std.specs.Prelude.{◌≡◌, ◌<◌, ℕ, zero, suc, ◌+◌, ◌-◌, nat_lt, cond, List, [], ◌∷◌, ◌++◌, length, Option, Some, None, slice_index_or}
 use Rattle.std.specs.List.{range_with_len}
 use Rattle.plan.specs.Layouts.{TableLayout, SideLayout, Layout, table_at}
 use Rattle.plan.specs.declared.domain.DomainId.{DomainId}
@@ -59,6 +59,13 @@ sources p = side_bases p p.left ++ right_bases p p.right
 -- the base shard that a source is
 abbrev pub source_at : Layout → ℕ → ℕ
 source_at p j = slice_index_or (sources p) j 0
+
+-- the base shard is that shard of that table
+pub record IsPlaceOf (p : Layout) (b : ℕ) (place : ℕ × ℕ) : Type 0 where
+  pub there : b < base_count p
+  pub range : place.0 < length p.tables
+  pub table : place.0 ≡ table_of p b
+  pub shard : place.1 ≡ shard_of p b
 
 -- the number of a domain that is a base shard
 abbrev pub number_of : Layout → DomainId → ℕ

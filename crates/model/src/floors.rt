@@ -1,5 +1,5 @@
 //! Floors of a session.
-ghost use Rattle.std.specs.Prelude.{◌≡◌, ◌<◌, [], length, slice_index_or, replicate, IfOk, ℕ};
+ghost use Rattle.std.specs.Prelude.{◌≡◌, ◌<◌, [], length, map, slice_index_or, replicate, IfOk, ℕ};
 ghost use Rattle.model.specs.Histories.{floor_at};
 ghost use Rattle.model.specs.Tables.{with_floor, even_floors, IsTable};
 
@@ -24,6 +24,27 @@ impl Model for Floors {
 }
 
 impl Floors {
+    /// These floors, for each view those of its shards, however many. Takes no memory.
+    pub fn new(rows: Vec<Vec<Lengths>>) -> Floors
+        ensures { result ≡ map (λ v. v.items) rows.items }
+    {
+        Floors { rows }
+    }
+
+    /// The floor at a shard of a view, or `none`, the cut of no lengths, where there is none.
+    pub fn floor_at<'a>(&'a self, view: usize, shard: usize, none: &'a Lengths) -> &'a Lengths
+        requires { none.now ≡ [] }
+        ensures { result.now ≡ floor_at self.now view shard }
+    {
+        let Some(row) = self.rows.get(view) else {
+            return none;
+        };
+        match row.get(shard) {
+            Some(floor) => floor,
+            None => none,
+        }
+    }
+
     /// All zeros.
     pub fn zeros(alloc: Global, plan: &Plan) -> Result<Floors, AllocError>
         ensures table { IfOk result (λ f. IsTable plan.now f) }
@@ -36,8 +57,7 @@ impl Floors {
         Ok(Floors { rows })
     }
 
-    /// The same line for each stage shard, at each shard of each view. Refused for want of memory
-    /// alone.
+    /// The same line for each stage shard, at each shard of each view. Errors: memory only.
     pub fn even(alloc: Global, plan: &Plan, line: &[u64]) -> Result<Floors, AllocError>
         ensures { IfOk result (λ f. f ≡ even_floors plan.now line.now) }
     {

@@ -1,5 +1,5 @@
 //! Lengths of the sources' logs, one for each stage shard and source.
-ghost use Rattle.std.specs.Prelude.{◌≡◌, ◌≢◌, ◌<◌, [], IsTrue, IsFalse, length, replicate, slice_index_or, IfOk};
+ghost use Rattle.std.specs.Prelude.{◌≡◌, ◌≢◌, ◌<◌, [], IsTrue, IsFalse, length, map, replicate, slice_index_or, IfOk};
 ghost use Rattle.model.specs.Histories.{len_at};
 ghost use Rattle.model.specs.Tables.{with_length};
 
@@ -22,6 +22,30 @@ impl Model for Lengths {
 }
 
 impl Lengths {
+    /// The cut of these lines, one for each stage shard, of whatever lengths. Takes no memory.
+    pub fn new(lines: Vec<Vec<u64>>) -> Lengths
+        ensures { result ≡ map (λ l. l.items) lines.items }
+    {
+        Lengths { lines }
+    }
+
+    /// For how many stage shards it has a line.
+    pub fn stages(&self) -> usize
+        ensures { result ≡ length self.now }
+    {
+        self.lines.len()
+    }
+
+    /// The lengths of a stage shard, in the order of the sources; none where it has no line.
+    pub fn line(&self, stage: usize) -> &[u64]
+        ensures { result.now ≡ slice_index_or self.now stage [] }
+    {
+        match self.lines.get(stage) {
+            Some(line) => line.as_slice(),
+            None => &[],
+        }
+    }
+
     /// No lengths, which are all zeros.
     pub fn empty(alloc: Global) -> Lengths
         ensures { result ≡ [] }
@@ -31,8 +55,7 @@ impl Lengths {
         }
     }
 
-    /// The same lengths of the sources for each of so many stage shards. Refused for want of
-    /// memory alone.
+    /// The same lengths of the sources for each of so many stage shards. Errors: memory only.
     pub fn even(alloc: Global, stages: usize, line: &[u64]) -> Result<Lengths, AllocError>
         ensures { IfOk result (λ c. c ≡ replicate stages line.now) }
     {
@@ -43,7 +66,7 @@ impl Lengths {
         Ok(Lengths { lines })
     }
 
-    /// The same lengths in memory of their own. Refused for want of memory alone.
+    /// The same lengths in memory of their own. Errors: memory only.
     pub fn again(&self, alloc: Global) -> Result<Lengths, AllocError>
         ensures { IfOk result (λ c. c ≡ self.now) }
     {

@@ -5,13 +5,10 @@ mod command;
 mod fault;
 mod reads;
 mod runner;
-#[cfg(test)]
-mod tests;
 mod texts;
 
 use crate::command::command;
 use crate::fault::Fault;
-use crate::texts::FileTexts;
 use row::refused::Refused;
 use std::alloc::AllocError;
 use std::io::Write;
@@ -24,7 +21,6 @@ fn main(rt: HostRuntime) -> ExitCode {
             rt,
             rt.alloc(),
             words.as_slice(),
-            &mut FileTexts(&rt),
             &mut rt.stdout(),
             &mut rt.stderr(),
         ),

@@ -12,8 +12,8 @@ use row::record::Record;
 use row::row::Row;
 use std::alloc::{AllocError, Global};
 
-/// The rows for which all conditions of the side hold, as a bag. Fails only for want of memory.
-/// Cost: a look at each row, and a copy of each that passes.
+/// The rows for which all conditions of the side hold, as a bag. Errors: memory only. Cost: a look
+/// at each row, and a copy of each that passes.
 pub fn full(alloc: Global, side: &Side, rows: &[Row]) -> Result<Bag, AllocError>
     ensures { IfOk result (λ bag. bag ≡ sorted row_cmp (filter (pass side.now.conditions) rows.now)) }
 {
@@ -27,8 +27,8 @@ pub fn full(alloc: Global, side: &Side, rows: &[Row]) -> Result<Bag, AllocError>
 }
 
 /// What a change of the rows changes of those that pass: the records of rows for which all
-/// conditions hold, in their order. A filter keeps no state. Fails only for want of memory. Cost:
-/// a look at each record, and a copy of each that passes.
+/// conditions hold, in their order. A filter keeps no state. Errors: memory only. Cost: a look at
+/// each record, and a copy of each that passes.
 pub fn step(alloc: Global, side: &Side, records: &[Record]) -> Result<Vec<Record>, AllocError>
     ensures records { IfOk result (λ v. v.items ≡ kept side.now.conditions records.now) }
     ensures difference { (before after : List Cells) → Turns before records.now after → IfOk result (λ v. Turns (filter (pass side.now.conditions) before) v.items (filter (pass side.now.conditions) after)) }

@@ -7,8 +7,4 @@ pub mod filter;
 pub mod index;
 pub mod shape;
 pub mod stage;
-#[cfg(test)]
-mod tests;
-#[cfg(test)]
-mod tests_of_parts;
 pub mod total;

@@ -29,7 +29,7 @@ impl<K: Eq + Hash, E> Model for Filled<K, E> {
 }
 
 impl<K: Eq + Hash + Drop, E: Drop> Filled<K, E> {
-    /// No entry. Fails only for want of memory.
+    /// No entry. Errors: memory only.
     pub fn new(alloc: Global) -> Result<Filled<K, E>, AllocError>
         ensures { IfOk result (λ f. f ≡ []) }
     {
@@ -61,8 +61,8 @@ impl<K: Eq + Hash + Drop, E: Drop> Filled<K, E> {
         Some(key)
     }
 
-    /// Puts in an entry whose key is not there, behind all others. Fails only for want of
-    /// memory, and then all is as it was. Constant time.
+    /// Puts in an entry whose key is not there, behind all others. Errors: memory only; then all is
+    /// as it was. Constant time.
     pub fn fill(&mut self, key: K, entry: E) -> Result<(), AllocError>
         requires { lookup (K.eq key) self.old ≡ None }
         ensures filled { OnOk result (self.new ≡ self.old ++ (key, entry) ∷ []) }
@@ -107,8 +107,8 @@ impl<K: Eq + Hash + Drop, E: Drop> Filled<K, E> {
 }
 
 impl<K: Eq + Hash + Drop, E: Gather> Filled<K, E> {
-    /// Applies the change to the key's entry, if there is one. Fails only for want of memory;
-    /// what is then left of that entry is not said. Constant time, and that of the change.
+    /// Applies the change to the key's entry, if there is one. Errors: memory only; what is then
+    /// left of that entry is not said. Constant time, and that of the change.
     pub fn apply(&mut self, alloc: Global, key: &K, change: &E::Change) -> Result<(), AllocError>
         requires { ForSome (lookup (K.eq key.now) self.old) (λ e. E.fits e change.now) }
         ensures applied { OnOk result (lookup (K.eq key.now) self.new ≡ option_map (λ e. E.plus e change.now) (lookup (K.eq key.now) self.old)) }

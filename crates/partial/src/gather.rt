@@ -25,13 +25,13 @@ pub trait Gather: Drop {
     /// The sum of the pieces.
     ghost total: { List Self → Self };
 
-    /// Applies the change, which fits. Fails only for want of memory; what is then left of the
-    /// entry is not said.
+    /// Applies the change, which fits. Errors: memory only; what is then left of the entry is not
+    /// said.
     fn apply(&mut self, alloc: Global, change: &Self::Change) -> Result<(), AllocError>
         requires { fits self.old change.now }
         ensures { OnOk result (self.new ≡ plus self.old change.now) };
 
-    /// The sum of the pieces. Fails only for want of memory.
+    /// The sum of the pieces. Errors: memory only.
     fn gather(alloc: Global, pieces: Vec<Self>) -> Result<Self, AllocError>
         ensures { IfOk result (λ e. e ≡ total pieces.items) };
 

@@ -8,6 +8,4 @@ pub mod filled;
 pub mod gather;
 pub mod partial;
 pub mod pieces;
-#[cfg(test)]
-mod tests;
 mod waiting;

@@ -46,7 +46,7 @@ impl<K: Eq + Hash, E> Model for Partial<K, E> {
 }
 
 impl<K: Eq + Hash + Drop, E: Drop> Partial<K, E> {
-    /// All keys are holes. Fails only for want of memory.
+    /// All keys are holes. Errors: memory only.
     pub fn new(alloc: Global, sources: usize) -> Result<Partial<K, E>, AllocError>
         ensures { IfOk result (λ p. p ≡ record { sources = sources; filled = []; waiting = [] }) }
     {
@@ -114,9 +114,9 @@ impl<K: Eq + Hash + Drop, E: Drop> Partial<K, E> {
 }
 
 impl<K: Eq + Hash + Drop, E: Gather> Partial<K, E> {
-    /// Makes a hole wait, with no piece in hand; elsewhere it changes nothing. Says whether it
-    /// did: then each source is to be asked. Fails only for want of memory, and then all is as
-    /// it was. Cost: the number of sources.
+    /// Makes a hole wait, with no piece in hand; elsewhere it changes nothing. Says whether it did:
+    /// then each source is to be asked. Errors: memory only; then all is as it was. Cost: the
+    /// number of sources.
     pub fn begin(&mut self, alloc: Global, key: K) -> Result<bool, AllocError>
         ensures sources { self.new.sources ≡ self.old.sources }
         ensures began { IfOk result (λ began. began ≡ is_hole (state_of K.eq self.old key)) }
@@ -135,10 +135,10 @@ impl<K: Eq + Hash + Drop, E: Gather> Partial<K, E> {
     }
 
     /// Takes in the piece of a source for a key that waits for it; with the last one the key is
-    /// filled with the sum of the pieces, behind all keys that are filled, and the call says so.
-    /// A piece for a key that does not wait, or from a source whose piece is here already, or
-    /// that there is not, changes nothing. Fails only for want of memory; what is then kept at
-    /// the key is not said. Cost: the number of sources, and that of the sum.
+    /// filled with the sum of the pieces, behind all keys that are filled, and the call says so. A
+    /// piece for a key that does not wait, or from a source whose piece is here already, or that
+    /// there is not, changes nothing. Errors: memory only; what is then kept at the key is not
+    /// said. Cost: the number of sources, and that of the sum.
     pub fn give_piece(
         &mut self,
         alloc: Global,
@@ -166,9 +166,9 @@ impl<K: Eq + Hash + Drop, E: Gather> Partial<K, E> {
     }
 
     /// Takes in a change of the part that a source has: a filled entry takes it; where the key
-    /// waits, the source's piece takes it if it is here, and else the change is dropped, since
-    /// the piece will have it; at a hole it is dropped. Fails only for want of memory; what is
-    /// then kept at the key is not said. Constant time, and that of the change.
+    /// waits, the source's piece takes it if it is here, and else the change is dropped, since the
+    /// piece will have it; at a hole it is dropped. Errors: memory only; what is then kept at the
+    /// key is not said. Constant time, and that of the change.
     pub fn apply(
         &mut self,
         alloc: Global,

@@ -22,8 +22,7 @@ impl<E> Model for Pieces<E> {
 }
 
 impl<E: Drop> Pieces<E> {
-    /// A place for each source, and no piece. Fails only for want of memory. Cost: the number
-    /// of sources.
+    /// A place for each source, and no piece. Errors: memory only. Cost: the number of sources.
     pub fn new(alloc: Global, sources: usize) -> Result<Pieces<E>, AllocError>
         ensures { IfOk result (λ p. p ≡ replicate sources None) }
     {
@@ -77,8 +76,8 @@ impl<E: Drop> Pieces<E> {
         }
     }
 
-    /// The pieces that are here, in the order of the sources. Fails only for want of memory.
-    /// Cost: the number of sources.
+    /// The pieces that are here, in the order of the sources. Errors: memory only. Cost: the number
+    /// of sources.
     #[tactic(auto, using(crate::proofs::InHand::somes_push_none, crate::proofs::InHand::somes_push_some))]
     pub fn into_pieces(self, alloc: Global) -> Result<Vec<E>, AllocError>
         ensures { IfOk result (λ v. v.items ≡ somes self) }
@@ -95,7 +94,7 @@ impl<E: Drop> Pieces<E> {
 
 impl<E: Gather> Pieces<E> {
     /// Applies the change to the piece of the source, where it is here; else drops the change.
-    /// Fails only for want of memory; what is then left is not said.
+    /// Errors: memory only; what is then left is not said.
     pub fn apply(
         &mut self,
         alloc: Global,

@@ -3,3 +3,8 @@ pub mod Loops
 pub mod Fits
 pub mod Sums
 pub mod Answers
+pub mod CutLoops
+pub mod LogLoops
+pub mod Owns
+pub mod LegalFits
+pub mod Verdicts

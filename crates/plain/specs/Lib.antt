@@ -1,1 +1,4 @@
 pub mod Fitting
+pub mod Items
+pub mod Tells
+pub mod Verdicts

@@ -3,12 +3,16 @@
 //! store's own code is compared with it.
 #![tactic(auto)]
 
+pub mod cuts;
+pub mod floors;
 pub mod front;
 mod groups;
+pub mod item;
+pub mod legal;
+pub mod logs;
+pub mod own;
 pub mod query;
 pub mod rows;
 mod shape;
 pub mod stage;
-#[cfg(test)]
-mod tests;
 mod totals;

@@ -14,8 +14,7 @@ use std::alloc::{AllocError, Global};
 
 /// The rows that the front leaves, in the order of their inserts; `key` is the table's key column.
 /// An insert adds its row, a delete takes away the row of its key, an update puts its row in place
-/// of that of the same key. Fails only for want of memory. Cost: a look at every row for each
-/// entry.
+/// of that of the same key. Errors: memory only. Cost: a look at every row for each entry.
 pub fn rows_of(alloc: Global, key: usize, front: &Front) -> Result<Vec<Row>, AllocError>
     ensures { IfOk result (λ rows. rows.items ≡ rows_of key front.now) }
 {
@@ -92,8 +91,8 @@ fn is_held(rows: &[Row], key: usize, value: &Value) -> bool
 }
 
 /// Whether the entry is lawful at the front: its key is absent from the front's rows for an insert,
-/// and present for a delete and an update. Fails only for want of memory. Costs what the rows of
-/// the front cost.
+/// and present for a delete and an update. Errors: memory only. Costs what the rows of the front
+/// cost.
 pub fn is_lawful(
     alloc: Global,
     key: usize,
@@ -112,8 +111,8 @@ pub fn is_lawful(
 }
 
 /// With what the entry is refused at the front of a log that takes at most `limit` entries:
-/// `Duplicate` or `Absent`, then `LogFull`, or nothing. Fails only for want of memory. Costs what
-/// the rows of the front cost.
+/// `Duplicate` or `Absent`, then `LogFull`, or nothing. Errors: memory only. Costs what the rows of
+/// the front cost.
 pub fn refusal(
     alloc: Global,
     key: usize,

@@ -81,8 +81,8 @@ fn sides<'a>(plan: &Plan, line: &'a Line) -> (&'a [Front], &'a [Front])
 }
 
 /// The left rows of the stage shard over the line: over all shards of the left table, the rows of
-/// the front whose stage key has the stage shard and that pass the left conditions. Fails only for
-/// want of memory. Costs what the rows of the fronts cost.
+/// the front whose stage key has the stage shard and that pass the left conditions. Errors: memory
+/// only. Costs what the rows of the fronts cost.
 pub fn left_rows(
     alloc: Global,
     plan: &Plan,
@@ -97,7 +97,7 @@ pub fn left_rows(
 }
 
 /// The right rows of the stage shard over the line, likewise; none where the stage has no right
-/// side. Fails only for want of memory. Costs what the rows of the fronts cost.
+/// side. Errors: memory only. Costs what the rows of the fronts cost.
 pub fn right_rows(
     alloc: Global,
     plan: &Plan,

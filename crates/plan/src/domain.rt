@@ -46,8 +46,8 @@ impl Plan {
         }
     }
 
-    /// The sources of the stage: the shards of the left table, then those of the right one. Refused
-    /// only by memory.
+    /// The sources of the stage: the shards of the left table, then those of the right one. Errors:
+    /// memory only.
     pub fn sources(&self, alloc: Global) -> Result<Vec<DomainId>, AllocError>
         ensures { IfOk result (λ ds. ds.items ≡ sources self.now) }
     {
@@ -60,7 +60,7 @@ impl Plan {
         Ok(out)
     }
 
-    /// The shards of the stage. Refused only by memory.
+    /// The shards of the stage. Errors: memory only.
     pub fn stage_shards(&self, alloc: Global) -> Result<Vec<DomainId>, AllocError>
         ensures { IfOk result (λ ds. ds.items ≡ stage_shards self.now) }
     {
@@ -71,7 +71,7 @@ impl Plan {
         Ok(out)
     }
 
-    /// The shards of the views, view by view. Refused only by memory.
+    /// The shards of the views, view by view. Errors: memory only.
     pub fn view_shards(&self, alloc: Global) -> Result<Vec<DomainId>, AllocError>
         ensures { IfOk result (λ ds. ds.items ≡ view_shards self.now) }
     {
@@ -82,9 +82,9 @@ impl Plan {
         Ok(out)
     }
 
-    /// The edges in their order: from each source to each stage shard; from each stage shard to each
-    /// view shard; requests from each view shard to each stage shard; requests from each stage shard
-    /// to each source. Refused only by memory. Cost: one look at each edge.
+    /// The edges in their order: from each source to each stage shard; from each stage shard to
+    /// each view shard; requests from each view shard to each stage shard; requests from each stage
+    /// shard to each source. Errors: memory only. Cost: one look at each edge.
     pub fn edges(&self, alloc: Global) -> Result<Vec<Edge>, AllocError>
         ensures { IfOk result (λ es. es.items ≡ edges self.now) }
     {

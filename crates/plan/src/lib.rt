@@ -10,5 +10,3 @@ mod passes;
 pub mod plan;
 pub mod stage;
 pub mod table;
-#[cfg(test)]
-mod tests;

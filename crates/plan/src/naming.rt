@@ -8,7 +8,7 @@ use std::alloc::{AllocError, Global};
 
 impl Plan {
     /// The text of a domain: the name of its table or view, or `stage`, then `.` and its shard. A
-    /// place that the plan does not have has no name. Refused only by memory.
+    /// place that the plan does not have has no name. Errors: memory only.
     pub fn domain_text(&self, alloc: Global, domain: DomainId) -> Result<String, AllocError>
         ensures { IfOk result (λ s. string_bytes s ≡ domain_text self.now domain) }
     {
@@ -19,7 +19,7 @@ impl Plan {
         }
     }
 
-    /// The text of an edge: the texts of its ends with `>` between them. Refused only by memory.
+    /// The text of an edge: the texts of its ends with `>` between them. Errors: memory only.
     pub fn edge_text(&self, alloc: Global, edge: Edge) -> Result<String, AllocError>
         ensures { IfOk result (λ s. string_bytes s ≡ edge_text self.now edge) }
     {
@@ -28,7 +28,7 @@ impl Plan {
         format!(in alloc; "{from}>{to}")
     }
 
-    /// The domain of the plan that has this text. Refused only by memory. Cost: the text of each
+    /// The domain of the plan that has this text. Errors: memory only. Cost: the text of each
     /// domain, of which there are at most 104.
     pub fn domain_named(&self, alloc: Global, text: &str) -> Result<Option<DomainId>, AllocError>
         ensures domain { IfOk result (λ d. d ≡ domain_named self.now text.now) }
@@ -42,7 +42,7 @@ impl Plan {
         self.named_among(alloc, text, &domains)
     }
 
-    /// The edge of the plan that has this text. Refused only by memory. Cost: the text of each edge,
+    /// The edge of the plan that has this text. Errors: memory only. Cost: the text of each edge,
     /// of which there are at most 768.
     pub fn edge_named(&self, alloc: Global, text: &str) -> Result<Option<Edge>, AllocError>
         ensures edge { IfOk result (λ e. e ≡ edge_named self.now text.now) }

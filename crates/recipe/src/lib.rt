@@ -8,6 +8,4 @@ mod reading;
 pub mod recipe;
 mod spots;
 mod stage;
-#[cfg(test)]
-mod tests;
 pub mod word;

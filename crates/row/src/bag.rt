@@ -68,8 +68,8 @@ impl Bag {
         at < rows.len() && row.cmp(&rows[at]).is_eq()
     }
 
-    /// Adds one of the row, beside those that are there. Fails only for want of memory, and
-    /// then the bag is as it was. Finds the place by halves, and moves the rows behind it.
+    /// Adds one of the row, beside those that are there. Errors: memory only; then the bag is as it
+    /// was. Finds the place by halves, and moves the rows behind it.
     pub fn add(&mut self, row: Row) -> Result<(), AllocError>
         ensures added { OnOk result (self.new ≡ inserted row_cmp row self.old) }
         ensures err { OnErr result (self.new ≡ self.old) }

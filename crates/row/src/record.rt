@@ -23,8 +23,8 @@ pub struct Record {
 }
 
 impl Record {
-    /// The same record in memory of its own. Fails only for want of memory. Cost: the length
-    /// of the row and of its texts.
+    /// The same record in memory of its own. Errors: memory only. Cost: the length of the row and
+    /// of its texts.
     pub fn copied(&self, alloc: Global) -> Result<Record, AllocError>
         ensures { IfOk result (λ r. r ≡ self.now) }
     {

@@ -4,6 +4,4 @@
 pub mod cell;
 pub mod command;
 pub mod script;
-#[cfg(test)]
-mod tests;
 pub mod words;

@@ -7,11 +7,11 @@ ghost use Rattle.book.specs.Replies.{IsAfter, IsWhole};
 ghost use Rattle.system.specs.Inserts.{IsAnswer};
 
 use crate::shared::Shared;
-use model::entry::Entry;
 use book::front::Front;
 use book::law::Naming;
 use book::part::Part;
 use domain::message::{Declined, Reply};
+use model::entry::Entry;
 use row::refused::Refused;
 use std::sync::Wait;
 

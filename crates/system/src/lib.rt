@@ -10,13 +10,5 @@ mod served;
 pub mod session;
 mod shared;
 pub mod system;
-#[cfg(test)]
-mod tests;
-#[cfg(test)]
-mod tests_of_hits;
-#[cfg(test)]
-mod tests_of_pace;
-#[cfg(test)]
-mod tests_of_reads;
 mod view_worker;
 mod worker;

@@ -11,8 +11,8 @@ ghost use Rattle.domain.specs.Messages.{last_number};
 
 use crate::session::Session;
 use book::cut::Cut;
-use model::lengths::Lengths;
 use book::law::Naming;
+use model::lengths::Lengths;
 use plan::plan::Plan;
 use row::refused::Refused;
 use row::row::Row;

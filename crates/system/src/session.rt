@@ -17,13 +17,13 @@ ghost use Rattle.system.specs.Served.{IsSingle};
 
 use crate::call::{Call, Told};
 use crate::shared::{Shared, ToBase};
-use model::entry::Entry;
 use book::front::Front;
 use book::law::Naming;
 use book::part::Part;
-use model::places::base_at;
 use book::session::SessionWord;
 use domain::message::Write;
+use model::entry::Entry;
+use model::places::base_at;
 use plan::plan::Plan;
 use row::refused::Refused;
 use row::row::Row;

@@ -40,8 +40,8 @@ impl Directory {
         }
     }
 
-    /// Adds one of the row to the key. Fails only for want of memory, and then all is as it was.
-    /// Cost: one look-up, and that of a bag's `add`; for a key's first row also a copy of the key.
+    /// Adds one of the row to the key. Errors: memory only; then all is as it was. Cost: one
+    /// look-up, and that of a bag's `add`; for a key's first row also a copy of the key.
     pub fn add(&mut self, alloc: Global, key: &Value, row: Row) -> Result<(), AllocError>
         ensures added { OnOk result ((k : Key) → rows_under k self.new.bags ≡ (if equal key.now k then inserted row_cmp row (rows_under k self.old.bags) else rows_under k self.old.bags)) }
         ensures err { OnErr result ((k : Key) → rows_under k self.new.bags ≡ rows_under k self.old.bags) }
@@ -85,9 +85,9 @@ impl Directory {
         let _ = self.bags.remove(key);
     }
 
-    /// Applies the records as one change, each to the key that its row has in the column; one
-    /// whose row has no such column changes nothing. Fails only for want of memory, and then all is
-    /// as it was. Cost: for each record, that of `add` with a copy of the row, or of `subtract`.
+    /// Applies the records as one change, each to the key that its row has in the column; one whose
+    /// row has no such column changes nothing. Errors: memory only; then all is as it was. Cost:
+    /// for each record, that of `add` with a copy of the row, or of `subtract`.
     pub fn apply(
         &mut self,
         alloc: Global,

@@ -8,6 +8,4 @@ pub mod directory;
 pub mod reader;
 mod rule;
 mod shown;
-#[cfg(test)]
-mod tests;
 pub mod writer;

@@ -43,7 +43,7 @@ impl<J: Naming> Model for Shown<J> {
 }
 
 impl<J: Naming> Shown<J> {
-    /// No rows, over no entries. Refused for want of memory alone.
+    /// No rows, over no entries. Errors: memory only.
     pub fn new(
         alloc: Global,
         plan: &Plan,
@@ -69,7 +69,7 @@ impl<J: Naming> Shown<J> {
         })
     }
 
-    /// The same over no entries, for a copy that has none. Refused for want of memory alone.
+    /// The same over no entries, for a copy that has none. Errors: memory only.
     pub fn twin(&self) -> Result<Shown<J>, AllocError>
         requires zeros { self.now.cut.lengths ≡ zero_lengths J.plan }
         ensures { IfOk result (λ s. s ≡ self.now) }

@@ -38,8 +38,8 @@ impl<T: Absorb<O> + Drop, O: Drop, V, P: Protocol<T, V>, R: Wait + Drop> Drop
 /// The writing end of a shown copy.
 pub type ShownWriter<J, R> = Board<Shown<J>, Delta<J>, Sight, Published, R>;
 
-/// A shown copy of one shard of a view over no entries, with places for so many readers. Refused
-/// for want of memory alone.
+/// A shown copy of one shard of a view over no entries, with places for so many readers. Errors:
+/// memory only.
 pub fn open<J: Naming, R: Wait + Drop>(
     rt: R,
     alloc: Global,
@@ -88,8 +88,8 @@ impl<J: Naming, R: Wait + Drop> ShownWriter<J, R> {
         ShownReader::over(reader, view, shard)
     }
 
-    /// Puts a delta behind those that are not published yet; it starts where they end. Refused for
-    /// want of memory alone, and then nothing has changed. Readers see what they saw.
+    /// Puts a delta behind those that are not published yet; it starts where they end. Errors:
+    /// memory only; then nothing has changed. Readers see what they saw.
     pub fn append(&mut self, delta: Delta<J>) -> Result<(), AllocError>
         requires chain { IsChain self.old.writer.desk.shown.value (dropped self.old.writer.behind self.old.writer.log.items) }
         requires starts { Starts (fold applied self.old.writer.desk.shown.value (dropped self.old.writer.behind self.old.writer.log.items)) delta }
@@ -105,10 +105,10 @@ impl<J: Naming, R: Wait + Drop> ShownWriter<J, R> {
         }
     }
 
-    /// Waits for readers that still look at the copy behind, applies each delta that was appended to
-    /// it, and turns readers to it. Refused for want of memory alone; readers then see what they
-    /// saw, and the deltas are still to be published. Cost: each record is applied to both copies,
-    /// and a look at the place of each reader.
+    /// Waits for readers that still look at the copy behind, applies each delta that was appended
+    /// to it, and turns readers to it. Errors: memory only; readers then see what they saw, and the
+    /// deltas are still to be published. Cost: each record is applied to both copies, and a look at
+    /// the place of each reader.
     pub fn publish(&mut self) -> Result<(), AllocError>
         requires chain { IsChain self.old.writer.desk.shown.value (dropped self.old.writer.behind self.old.writer.log.items) }
         ensures shown { OnOk result (self.new.writer.desk.shown.value ≡ fold applied self.old.writer.desk.shown.value (dropped self.old.writer.behind self.old.writer.log.items)) }

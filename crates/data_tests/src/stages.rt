@@ -1,0 +1,400 @@
+//! Steps of stages beside the whole output over plain bags.
+ghost use Rattle.std.specs.Prelude.{◌≢◌};
+
+use crate::words::{records, written_records};
+use ops::index::have_column;
+use ops::shape::Shape;
+use ops::stage::{Stage, full};
+use ops::total::can_tell_all;
+use plan::kinds::Aggregate;
+use row::bag::Bag;
+use row::record::{Record, Sign};
+use row::row::Row;
+use row::value::Value;
+use std::alloc::{AllocError, Global};
+use std::test::Fail;
+
+/// Takes away one of the row, and says whether it was there.
+fn take(bag: &mut Bag, row: &Row) -> bool {
+    let there = bag.contains(row);
+    if there {
+        bag.subtract(row);
+    }
+    there
+}
+
+/// Turns the bag by the records, and says whether what they take away was there.
+fn turn(alloc: Global, bag: &mut Bag, records: &[Record]) -> Result<bool, AllocError> {
+    for record in records {
+        if record.sign == Sign::Plus {
+            bag.add(record.row.copied(alloc)?)?;
+        }
+    }
+    let mut all = true;
+    for record in records {
+        if record.sign == Sign::Minus {
+            all = take(bag, &record.row) && all;
+        }
+    }
+    Ok(all)
+}
+
+fn step_left(alloc: Global, stage: &mut Stage, records: &[Record]) -> Result<Vec<Record>, Fail> {
+    if !stage.takes_left(records) {
+        return Err(Fail::from("not taken"));
+    }
+    Ok(stage.step_left(alloc, records)?)
+}
+
+fn step_right(alloc: Global, stage: &mut Stage, records: &[Record]) -> Result<Vec<Record>, Fail> {
+    if !stage.takes_right(records) {
+        return Err(Fail::from("not taken"));
+    }
+    Ok(stage.step_right(alloc, records)?)
+}
+
+/// The shape of a stage, and the column of the stage key on each side.
+#[derive(Clone, Copy, Drop)]
+struct Keyed {
+    shape: Shape,
+    left: usize,
+    right: usize,
+}
+
+/// The whole output over the rows of both sides, which have the columns and can be told of.
+fn whole(alloc: Global, of: Keyed, lefts: &[Row], rights: &[Row]) -> Result<Bag, Fail> {
+    let Keyed { shape, left, right } = of;
+    let lefts_fit = have_column(left, lefts) && can_tell_all(shape.told_of_left(), lefts);
+    let rights_fit = have_column(right, rights) && can_tell_all(shape.told_of_right(), rights);
+    if !lefts_fit || !rights_fit {
+        return Err(Fail::from("no such output"));
+    }
+    Ok(full(alloc, shape, left, right, lefts, rights)?)
+}
+
+/// The rows of both sides as plain bags, and the output that the steps made.
+#[derive(Drop)]
+struct Beside {
+    lefts: Bag,
+    rights: Bag,
+    shown: Bag,
+}
+
+impl Beside {
+    fn new(alloc: Global) -> Beside {
+        Beside {
+            lefts: Bag::new(alloc),
+            rights: Bag::new(alloc),
+            shown: Bag::new(alloc),
+        }
+    }
+
+    /// The rows of one side.
+    fn side(&mut self, is_left: bool) -> &mut Bag {
+        if is_left {
+            &mut self.lefts
+        } else {
+            &mut self.rights
+        }
+    }
+}
+
+/// Takes the records of one side, and gives what they change of the output, where the output is
+/// then the whole one.
+fn step(
+    alloc: Global,
+    of: Keyed,
+    stage: &mut Stage,
+    beside: &mut Beside,
+    is_left: bool,
+    records: &[Record],
+) -> Result<Vec<Record>, Fail> {
+    let changes = if is_left {
+        step_left(alloc, stage, records)?
+    } else {
+        step_right(alloc, stage, records)?
+    };
+    if !turn(alloc, beside.side(is_left), records)? || !turn(alloc, &mut beside.shown, &changes)? {
+        return Err(Fail::from("not there"));
+    }
+    Ok(changes)
+}
+
+/// Whether the output that the steps made is the whole one over the plain bags.
+fn is_whole(alloc: Global, of: Keyed, beside: &Beside) -> Result<bool, Fail> {
+    let whole = whole(alloc, of, beside.lefts.rows(), beside.rights.rows())?;
+    Ok(whole.rows() == beside.shown.rows())
+}
+
+/// Takes the steps, one a line: `left RECORDS > CHANGES` or `right RECORDS > CHANGES`. Gives the
+/// first line that changes something else, or after which the output is not the whole one.
+fn first_wrong<'a>(alloc: Global, of: Keyed, steps: &'a str) -> Result<Option<&'a str>, Fail> {
+    let mut stage = Stage::new(alloc, of.shape, of.left, of.right);
+    let mut beside = Beside::new(alloc);
+    for line in steps.lines() {
+        if !is_right(alloc, of, &mut stage, &mut beside, line)? {
+            return Ok(Some(line));
+        }
+    }
+    Ok(None)
+}
+
+/// The side of a step, its records and its changes.
+fn parts(line: &str) -> Option<(bool, &str, &str)> {
+    let (step, changes) = line.split_once(" >")?;
+    let (side, records) = step.split_once(' ')?;
+    Some((side == "left", records, changes.trim_start()))
+}
+
+fn is_right(
+    alloc: Global,
+    of: Keyed,
+    stage: &mut Stage,
+    beside: &mut Beside,
+    line: &str,
+) -> Result<bool, Fail> {
+    let Some((is_left, words, want)) = parts(line) else {
+        return Ok(false);
+    };
+    let changes = step(alloc, of, stage, beside, is_left, &records(alloc, words)?)?;
+    Ok(written_records(alloc, &changes)?.as_str() == want && is_whole(alloc, of, beside)?)
+}
+
+const VOTES: &str = "right +10 1 1 >
+left +1 7 a > +1 7 a 1
+right +11 1 1 > -1 7 a 1;+1 7 a 2
+left +2 7 b >
+left +3 8 c >
+right -10 1 1;+10 2 1 > -1 7 a 2;+1 7 a 1;+2 7 b 1
+right +12 4 1 >
+left +4 7 d > +4 7 d 1
+right +13 1 1 > -1 7 a 1;+1 7 a 2
+right -13 1 1;+13 1 1 >
+right +14 1 1;-13 1 1 >
+left -1 7 a;+1 9 a > -1 7 a 2;+1 9 a 2
+left -1 9 a;+1 9 a >
+right -12 4 1 > -4 7 d 1
+right -11 1 1;-14 1 1 > -1 9 a 2
+right +15 1 1 > +1 9 a 1
+left -1 9 a > -1 9 a 1
+left ; >";
+
+const WEIGHTS: &str = "left +1 7 a;+2 7 b >
+right +10 1 9223372036854775807 > +1 7 a 9223372036854775807
+right +11 1 9223372036854775807 > -1 7 a 9223372036854775807;+1 7 a 18446744073709551614
+right +12 2 -9223372036854775808;+13 2 -9223372036854775808 > +2 7 b -18446744073709551616
+right -11 1 9223372036854775807;+11 2 9223372036854775807 > -1 7 a 18446744073709551614;-2 7 b -18446744073709551616;+1 7 a 9223372036854775807;+2 7 b -9223372036854775809
+right -10 1 9223372036854775807;+10 1 0 > -1 7 a 9223372036854775807;+1 7 a 0
+right -10 1 0 > -1 7 a 0
+right +14 2 5;+15 2 -5 >";
+
+const TEXTS: &str = "left +ab 1 >
+right +ab 5 > +ab 1 ab 5
+left +\"\" 2 >
+right +\"\" 6 > +\"\" 2 \"\" 6
+left +ab 1 > +ab 1 ab 5
+right +ab 5 > +ab 1 ab 5;+ab 1 ab 5
+left -ab 1 > -ab 1 ab 5;-ab 1 ab 5
+right -ab 5;+\"\" 5 > -ab 1 ab 5;+\"\" 2 \"\" 5
+left +5 1;+\"\" 2 > +\"\" 2 \"\" 5;+\"\" 2 \"\" 6";
+
+const PAGES: &str = "left +1 home 5 > +home 5
+left +3 home 7 > -home 5;+home 12
+left -1 home 5 > -home 12;+home 7
+left +4 away 7 > +away 7
+left -3 home 7 > -home 7
+left +5 home 1;+6 home -1 > +home 0
+left -5 home 1;-6 home -1;-4 away 7;+4 home 7 > -away 7;-home 0;+home 7
+right +9 home 9 >";
+
+const NUMBERS: &str = "left +1 home 5;+1 home 5 > +home 2
+left +2 away 5 > +away 1
+left -1 home 5;+3 home 5 >
+left -1 home 5;-3 home 5 > -home 2
+left -2 away 5;+2 home 5 > -away 1;+home 1";
+
+const REPEATS: &str = "left +1 a;+1 a;+2 b > +1 a;+1 a;+2 b
+left -1 a > -1 a
+right +1 x >
+left +1 a;-1 a >
+left -1 a;+1 c > -1 a;+1 c";
+
+const TABLES: [(Keyed, &str); 6] = [
+    (
+        Keyed {
+            shape: Shape::Rows,
+            left: 0,
+            right: 0,
+        },
+        REPEATS,
+    ),
+    (
+        Keyed {
+            shape: Shape::Join,
+            left: 0,
+            right: 0,
+        },
+        TEXTS,
+    ),
+    (
+        Keyed {
+            shape: Shape::Total(Aggregate::Count),
+            left: 0,
+            right: 1,
+        },
+        VOTES,
+    ),
+    (
+        Keyed {
+            shape: Shape::Total(Aggregate::Sum(2)),
+            left: 0,
+            right: 1,
+        },
+        WEIGHTS,
+    ),
+    (
+        Keyed {
+            shape: Shape::Group(Aggregate::Count),
+            left: 1,
+            right: 1,
+        },
+        NUMBERS,
+    ),
+    (
+        Keyed {
+            shape: Shape::Group(Aggregate::Sum(2)),
+            left: 1,
+            right: 1,
+        },
+        PAGES,
+    ),
+];
+
+#[test]
+fn steps_change_the_output(rt: HostRuntime) -> Result<(), Fail> {
+    for (of, steps) in TABLES {
+        let wrong = first_wrong(rt.alloc(), of, steps)?;
+        assert!(rt; wrong.is_none(), "{wrong:?} of {:?}", of.shape);
+    }
+    Ok(())
+}
+
+/// The next of the numbers that follow from a seed, below a limit.
+fn next(seed: &mut u64, limit: u64) -> u64
+    requires { limit ≢ 0 }
+{
+    *seed = seed
+        .wrapping_mul(6_364_136_223_846_793_005)
+        .wrapping_add(1_442_695_040_888_963_407);
+    (*seed >> 33) % limit
+}
+
+/// A record that adds a row of three small numbers.
+fn any_gain(alloc: Global, seed: &mut u64) -> Result<Record, AllocError> {
+    let mut values = Vec::new(alloc);
+    for _ in 0..3 {
+        values.push(Value::Int(i128::from(next(seed, 4)) - 1))?;
+    }
+    let row = Row::new(values);
+    let sign = Sign::Plus;
+    Ok(Record { row, sign })
+}
+
+/// A record that takes away one of the rows, if there are as many as the number that comes.
+fn any_loss(alloc: Global, seed: &mut u64, rows: &[Row]) -> Result<Option<Record>, AllocError> {
+    match rows.get(next(seed, 24) as usize) {
+        Some(row) => {
+            let row = row.copied(alloc)?;
+            let sign = Sign::Minus;
+            Ok(Some(Record { row, sign }))
+        }
+        None => Ok(None),
+    }
+}
+
+/// Up to four records: rows that come, and up to two of the rows, at places apart, that go.
+fn any_records(alloc: Global, seed: &mut u64, rows: &[Row]) -> Result<Vec<Record>, AllocError> {
+    let mut all = Vec::new(alloc);
+    let (first, second) = rows.split_at(rows.len() / 2);
+    if let Some(record) = any_loss(alloc, seed, first)? {
+        all.push(record)?;
+    }
+    for _ in 0..next(seed, 3) {
+        all.push(any_gain(alloc, seed)?)?;
+    }
+    if let Some(record) = any_loss(alloc, seed, second)? {
+        all.push(record)?;
+    }
+    Ok(all)
+}
+
+/// Changes either side a thousand times, and says after how many the output that the steps made is
+/// not the whole one.
+fn changes_until_wrong(alloc: Global, of: Keyed) -> Result<Option<usize>, Fail> {
+    let mut stage = Stage::new(alloc, of.shape, of.left, of.right);
+    let mut beside = Beside::new(alloc);
+    let mut seed: u64 = 7;
+    for count in 0..1000 {
+        change(alloc, of, &mut stage, &mut beside, &mut seed)?;
+        if !is_whole(alloc, of, &beside)? {
+            return Ok(Some(count));
+        }
+    }
+    Ok(None)
+}
+
+fn change(
+    alloc: Global,
+    of: Keyed,
+    stage: &mut Stage,
+    beside: &mut Beside,
+    seed: &mut u64,
+) -> Result<(), Fail> {
+    let is_left = next(seed, 2) == 0;
+    let records = any_records(alloc, seed, beside.side(is_left).rows())?;
+    step(alloc, of, stage, beside, is_left, &records)?;
+    Ok(())
+}
+
+/// The six stages, each with the third column as what is summed.
+const STAGES: [Keyed; 6] = [
+    Keyed {
+        shape: Shape::Rows,
+        left: 0,
+        right: 1,
+    },
+    Keyed {
+        shape: Shape::Join,
+        left: 0,
+        right: 1,
+    },
+    Keyed {
+        shape: Shape::Total(Aggregate::Count),
+        left: 0,
+        right: 1,
+    },
+    Keyed {
+        shape: Shape::Total(Aggregate::Sum(2)),
+        left: 0,
+        right: 1,
+    },
+    Keyed {
+        shape: Shape::Group(Aggregate::Count),
+        left: 1,
+        right: 1,
+    },
+    Keyed {
+        shape: Shape::Group(Aggregate::Sum(2)),
+        left: 1,
+        right: 1,
+    },
+];
+
+#[test]
+fn a_thousand_changes_make_the_whole_output(rt: HostRuntime) -> Result<(), Fail> {
+    for of in STAGES {
+        let wrong = changes_until_wrong(rt.alloc(), of)?;
+        assert!(rt; wrong.is_none(), "{wrong:?} of {:?}", of.shape);
+    }
+    Ok(())
+}

@@ -1,0 +1,12 @@
+//! Tests of `row`, `plan` and `book`: that calls which take memory succeed, and examples whose
+//! answers are known from outside the code.
+#![tactic(auto)]
+
+#[cfg(test)]
+mod books;
+#[cfg(test)]
+mod cells;
+#[cfg(test)]
+mod plans;
+#[cfg(test)]
+mod rows;

@@ -1,0 +1,173 @@
+//! Values, rows, bags and refusals.
+use crate::cells::Cell::{self, Int, Text};
+use crate::cells::{row, value};
+use row::bag::Bag;
+use row::record::{Record, Sign};
+use row::refused::Refused;
+use row::value::shard_of;
+use std::alloc::{AllocError, Global};
+use std::cmp::Ordering;
+use std::test::Fail;
+
+const SHARDS: [(Cell, usize, usize); 5] = [
+    (Int(-3), 8, 5),
+    (Int(-8), 8, 0),
+    (Int(11), 8, 3),
+    (Text("ab"), 2, 1),
+    (Text(""), 2, 0),
+];
+
+#[test]
+fn a_value_has_its_shard(rt: HostRuntime) -> Result<(), Fail> {
+    for (cell, shards, shard) in SHARDS {
+        let found = shard_of(&value(rt.alloc(), cell)?, shards);
+        assert!(rt; found == shard, "{found}, not {shard}");
+    }
+    Ok(())
+}
+
+/// A row, another one, and how the first stands to the second.
+const ORDERS: [(&[Cell], &[Cell], Ordering); 8] = [
+    (&[Int(9)], &[Text("1")], Ordering::Less),
+    (&[Int(-2)], &[Int(1)], Ordering::Less),
+    (&[Text("b")], &[Text("ab")], Ordering::Greater),
+    (&[Text("a")], &[Text("ab")], Ordering::Less),
+    (&[Text("a")], &[Text("a")], Ordering::Equal),
+    (&[Int(1), Int(9)], &[Int(2), Int(0)], Ordering::Less),
+    (&[Int(1)], &[Int(1), Int(9)], Ordering::Less),
+    (&[], &[Int(-1)], Ordering::Less),
+];
+
+fn compared(alloc: Global, cells: &[Cell], others: &[Cell]) -> Result<Ordering, AllocError> {
+    Ok(row(alloc, cells)?.cmp(&row(alloc, others)?))
+}
+
+#[test]
+fn rows_compare_by_value_and_then_by_length(rt: HostRuntime) -> Result<(), Fail> {
+    for (cells, others, order) in ORDERS {
+        let found = compared(rt.alloc(), cells, others)?;
+        assert!(rt; found == order, "{found:?}, not {order:?}");
+    }
+    Ok(())
+}
+
+const PRINTED: [(&[Cell], &str); 6] = [
+    (&[], ""),
+    (&[Int(0)], "0"),
+    (&[Int(-1)], "-1"),
+    (&[Int(i128::MAX)], "170141183460469231731687303715884105727"),
+    (
+        &[Int(i128::MIN)],
+        "-170141183460469231731687303715884105728",
+    ),
+    (&[Int(1), Int(7), Text("c d")], "1 7 \"c d\""),
+];
+
+fn printed(alloc: Global, cells: &[Cell]) -> Result<String, AllocError> {
+    row(alloc, cells)?.to_string(alloc)
+}
+
+#[test]
+fn rows_are_printed(rt: HostRuntime) -> Result<(), Fail> {
+    for (cells, text) in PRINTED {
+        let found = printed(rt.alloc(), cells)?;
+        assert!(rt; found.as_str() == text, "{found}, not {text}");
+    }
+    Ok(())
+}
+
+const QUOTED: [(&str, &str); 6] = [
+    ("a", "a"),
+    ("", "\"\""),
+    ("x\"y", "\"x\\\"y\""),
+    ("a\\b", "\"a\\\\b\""),
+    ("#x", "#x"),
+    ("é\"€", "\"é\\\"€\""),
+];
+
+#[test]
+fn texts_are_quoted_where_they_have_to_be(rt: HostRuntime) -> Result<(), Fail> {
+    for (text, quoted) in QUOTED {
+        let found = printed(rt.alloc(), &[Text(text)])?;
+        assert!(rt; found.as_str() == quoted, "{found}, not {quoted}");
+    }
+    Ok(())
+}
+
+/// Two rows that are alike, and another one.
+fn bag(alloc: Global) -> Result<Bag, AllocError> {
+    let mut bag = Bag::new(alloc);
+    for (first, second) in [(2, 0), (1, 7), (2, 0)] {
+        bag.add(row(alloc, &[Int(first), Int(second)])?)?;
+    }
+    Ok(bag)
+}
+
+/// Takes away one of the row, and says whether it was there.
+fn take(alloc: Global, bag: &mut Bag, cells: &[Cell]) -> Result<bool, AllocError> {
+    let row = row(alloc, cells)?;
+    let there = bag.contains(&row);
+    if there {
+        bag.subtract(&row);
+    }
+    Ok(there)
+}
+
+/// Whether these are the rows, with `;` behind each.
+fn has_rows(alloc: Global, bag: &Bag, text: &str) -> Result<bool, AllocError> {
+    let mut all = String::new(alloc);
+    for row in bag.rows() {
+        all.push_str(row.to_string(alloc)?.as_str())?;
+        all.push(';')?;
+    }
+    Ok(all.as_str() == text)
+}
+
+fn keeps_repeats(alloc: Global, bag: &mut Bag) -> Result<bool, AllocError> {
+    Ok(
+        has_rows(alloc, bag, "1 7;2 0;2 0;")?
+            && take(alloc, bag, &[Int(2), Int(0)])?
+            && !take(alloc, bag, &[Int(1), Int(8)])?
+            && has_rows(alloc, bag, "1 7;2 0;")?,
+    )
+}
+
+#[test]
+fn a_bag_keeps_repeats(rt: HostRuntime) -> Result<(), Fail> {
+    let mut bag = bag(rt.alloc())?;
+    assert!(rt; keeps_repeats(rt.alloc(), &mut bag)?);
+    Ok(())
+}
+
+fn is_copied(alloc: Global) -> Result<bool, AllocError> {
+    let record = Record {
+        row: row(alloc, &[Int(3), Text("a b")])?,
+        sign: Sign::Minus,
+    };
+    let copy = record.copied(alloc)?;
+    Ok(copy.row == record.row && copy.sign == record.sign)
+}
+
+#[test]
+fn a_record_is_copied_whole(rt: HostRuntime) -> Result<(), Fail> {
+    assert!(rt; is_copied(rt.alloc())?);
+    Ok(())
+}
+
+/// The first and the last of the refusals that come one after the other.
+const REFUSALS: [(Refused, u8, &str); 4] = [
+    (Refused::NoMemory, 1, "NoMemory"),
+    (Refused::UnknownPlace, 15, "UnknownPlace"),
+    (Refused::BadScript, 30, "BadScript"),
+    (Refused::NotYet, 33, "NotYet"),
+];
+
+#[test]
+fn a_refusal_has_its_number_and_name(rt: HostRuntime) {
+    for (refused, number, name) in REFUSALS {
+        assert!(rt;
+            refused.number() == number && refused.name() == name,
+            "{name}"
+        );
+    }
+}

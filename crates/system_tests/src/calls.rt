@@ -1,0 +1,85 @@
+//! The calls of a session with no clause, so that the proof of a test does not carry what each says.
+use crate::notes::note;
+use book::law::Naming;
+use row::refused::Refused;
+use row::row::Row;
+use row::value::Value;
+use std::alloc::{AllocError, Global};
+use std::sync::Wait;
+use std::test::Fail;
+use system::read::{Answer, Found};
+use system::session::{Accepted, Session};
+use system::system::System;
+
+// A thread to which memory was refused has stopped.
+pub fn fail(refused: Refused) -> Fail {
+    match refused {
+        Refused::NoMemory | Refused::Stopped => Fail::from(AllocError),
+        _ => Fail::from("refused"),
+    }
+}
+
+// A wrong answer, at this place of its table.
+pub fn wrong(place: usize) -> Fail {
+    Fail::new(place)
+}
+
+pub fn next<J: Naming + Send + Sync + 'static>(
+    system: &mut System<J>,
+    alloc: Global,
+) -> Result<Session<J>, Refused> {
+    system.session(alloc)
+}
+
+pub fn insert<J: Naming, R: Wait>(
+    rt: &R,
+    alloc: Global,
+    session: &mut Session<J>,
+    table: &str,
+    row: Row,
+) -> Result<Accepted, Refused> {
+    session.insert(rt, alloc, table, row)
+}
+
+pub fn fence<J: Naming, R: Wait>(
+    rt: &R,
+    alloc: Global,
+    session: &mut Session<J>,
+) -> Result<(), Refused> {
+    session.fence(rt, alloc)
+}
+
+pub fn read<J: Naming>(
+    alloc: Global,
+    session: &mut Session<J>,
+    view: &str,
+    key: &Value,
+) -> Result<Answer, Refused> {
+    session.read(alloc, view, key)
+}
+
+pub fn try_read<J: Naming>(
+    alloc: Global,
+    session: &mut Session<J>,
+    view: &str,
+    key: &Value,
+) -> Result<Found, Refused> {
+    session.try_read(alloc, view, key)
+}
+
+pub fn meet<J: Naming>(first: &mut Session<J>, second: &mut Session<J>) {
+    first.meet(second);
+}
+
+// Inserts a note, and gives its index.
+pub fn add<J: Naming, R: Wait>(
+    rt: &R,
+    alloc: Global,
+    session: &mut Session<J>,
+    id: i128,
+    author: i128,
+) -> Result<u64, Refused> {
+    let row = note(alloc, id, author)?;
+    let accepted = insert(rt, alloc, session, "notes", row)?;
+    Ok(accepted.index)
+}

@@ -1,0 +1,91 @@
+//! A base shard, one entry after another.
+ghost use Rattle.std.specs.Prelude.{◌≡◌};
+ghost use Rattle.model.specs.Entries.{change_of};
+ghost use Rattle.base.specs.Shards.{HasKey};
+
+use crate::calls::{fail, wrong};
+use crate::notes::{Change, Signed, are_signed, entry_of};
+use base::shard::BaseShard;
+use model::entry::Entry;
+use row::record::{Record, Sign};
+use row::refused::Refused;
+use std::alloc::Global;
+use std::test::Fail;
+
+/// An entry, and what it changes or why it is refused.
+type Step = (Change, Result<&'static [Signed], Refused>);
+
+/// Entries of a log of at most six.
+const STEPS: &[Step] = &[
+    (Change::Insert(1, 7), Ok(&[(Sign::Plus, 1, 7)])),
+    (Change::Insert(1, 8), Err(Refused::Duplicate)),
+    (Change::Insert(2, 7), Ok(&[(Sign::Plus, 2, 7)])),
+    (Change::Update(3, 7), Err(Refused::Absent)),
+    (
+        Change::Update(1, 8),
+        Ok(&[(Sign::Minus, 1, 7), (Sign::Plus, 1, 8)]),
+    ),
+    (
+        Change::Update(1, 8),
+        Ok(&[(Sign::Minus, 1, 8), (Sign::Plus, 1, 8)]),
+    ),
+    (Change::Delete(3), Err(Refused::Absent)),
+    (Change::Delete(2), Ok(&[(Sign::Minus, 2, 7)])),
+    (Change::Delete(2), Err(Refused::Absent)),
+    (Change::Insert(2, 9), Ok(&[(Sign::Plus, 2, 9)])),
+    (Change::Insert(3, 7), Err(Refused::LogFull)),
+    (Change::Insert(2, 7), Err(Refused::Duplicate)),
+    (Change::Delete(2), Err(Refused::LogFull)),
+    (Change::Delete(3), Err(Refused::Absent)),
+];
+
+#[test]
+fn entries_of_a_log(rt: HostRuntime) -> Result<(), Fail> {
+    let mut notes = Notes {
+        shard: BaseShard::new(rt.alloc(), 0, 6),
+    };
+    assert!(rt; notes.shard.is_empty());
+    notes.take_all(rt.alloc())?;
+    assert!(rt; notes.shard.len() == 6);
+    Ok(())
+}
+
+/// A base shard of notes.
+#[derive(Drop)]
+struct Notes {
+    shard: BaseShard,
+    ghost key: { shard.key ≡ 0 },
+}
+
+impl Notes {
+    fn take_all(&mut self, alloc: Global) -> Result<(), Fail> {
+        for (place, step) in STEPS.iter().enumerate() {
+            if !self.is_answered(alloc, *step)? {
+                return Err(wrong(place));
+            }
+        }
+        Ok(())
+    }
+
+    // Whether the change is accepted with the wanted records, or refused as wanted.
+    fn is_answered(&mut self, alloc: Global, (change, wanted): Step) -> Result<bool, Fail> {
+        let entry = entry_of(alloc, change)?;
+        match write(&mut self.shard, alloc, entry) {
+            Ok(records) => Ok(wanted.is_ok_and(|notes| are_signed(&records, notes))),
+            Err(Refused::NoMemory) => Err(fail(Refused::NoMemory)),
+            Err(refused) => Ok(wanted.err() == Some(refused)),
+        }
+    }
+}
+
+// Checks the entry, tells what it changes, makes room for it and applies it.
+fn write(shard: &mut BaseShard, alloc: Global, entry: Entry) -> Result<Vec<Record>, Refused>
+    requires { HasKey shard.old.key (change_of entry) }
+    ensures { shard.new.key ≡ shard.old.key }
+{
+    shard.check(&entry)?;
+    let records = shard.changes(alloc, &entry)?;
+    shard.reserve(alloc, &entry)?;
+    shard.commit(entry);
+    Ok(records)
+}

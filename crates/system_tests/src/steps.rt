@@ -1,0 +1,181 @@
+//! Calls of one session after the other, each with its answer.
+use crate::calls::{fail, fence, insert, read, try_read, wrong};
+use crate::notes::note;
+use book::law::Naming;
+use model::entry::Entry;
+use plain::front::{Front, Line};
+use plain::query;
+use plain::stage::are_lines;
+use plan::plan::Plan;
+use row::refused::Refused;
+use row::row::Row;
+use row::value::Value;
+use std::alloc::{AllocError, Global};
+use std::sync::Wait;
+use std::test::Fail;
+use system::read::{Answer, Found};
+use system::session::{Accepted, Session};
+
+const VIEW: &str = "by_author";
+
+/// A call of a session. The note of an even number is author 7's, that of an odd one author 8's.
+#[derive(Clone, Copy)]
+pub enum Call {
+    Fence,
+    Insert(&'static str, u64),
+    InsertShortRow,
+    Read(i128),
+    ReadText,
+    TryRead(&'static str, i128),
+}
+
+/// What a call that was not refused told. Rows are the number of entries in the cut and that of the
+/// rows, which are the query's over the cut; else the answer is wrong.
+#[derive(Clone, Copy, PartialEq, Eq)]
+pub enum Told {
+    Fenced,
+    Index(u64),
+    Rows(u64, usize),
+    Miss,
+    Wrong,
+}
+
+/// A call and its answer.
+pub type Step = (Call, Result<Told, Refused>);
+
+// Makes the calls in order, each with its answer.
+pub fn make_all<J: Naming, R: Wait>(
+    rt: &R,
+    alloc: Global,
+    session: &mut Session<J>,
+    steps: &[Step],
+) -> Result<(), Fail> {
+    for (place, (call, wanted)) in steps.iter().enumerate() {
+        let told = answer(rt, alloc, session, *call);
+        if !is_wanted(told, *wanted)? {
+            return Err(wrong(place));
+        }
+    }
+    Ok(())
+}
+
+// A refusal that is not wanted goes out as a failure.
+fn is_wanted(told: Result<Told, Refused>, wanted: Result<Told, Refused>) -> Result<bool, Fail> {
+    match told {
+        Err(refused) if told != wanted => Err(fail(refused)),
+        _ => Ok(told == wanted),
+    }
+}
+
+pub fn answer<J: Naming, R: Wait>(
+    rt: &R,
+    alloc: Global,
+    session: &mut Session<J>,
+    call: Call,
+) -> Result<Told, Refused> {
+    match call {
+        Call::Fence => tell_fence(rt, alloc, session),
+        Call::Insert(table, id) => tell_insert(rt, alloc, session, table, id),
+        Call::InsertShortRow => tell_short_row(rt, alloc, session),
+        Call::Read(author) => tell_read(alloc, session, author),
+        Call::ReadText => tell_text(alloc, session),
+        Call::TryRead(view, author) => tell_try(alloc, session, view, author),
+    }
+}
+
+fn tell_fence<J: Naming, R: Wait>(
+    rt: &R,
+    alloc: Global,
+    session: &mut Session<J>,
+) -> Result<Told, Refused> {
+    fence(rt, alloc, session)?;
+    Ok(Told::Fenced)
+}
+
+fn tell_insert<J: Naming, R: Wait>(
+    rt: &R,
+    alloc: Global,
+    session: &mut Session<J>,
+    table: &str,
+    id: u64,
+) -> Result<Told, Refused> {
+    let row = numbered(alloc, id)?;
+    Ok(told_of(insert(rt, alloc, session, table, row)?))
+}
+
+fn tell_short_row<J: Naming, R: Wait>(
+    rt: &R,
+    alloc: Global,
+    session: &mut Session<J>,
+) -> Result<Told, Refused> {
+    Ok(told_of(insert(rt, alloc, session, "notes", Row::new(Vec::new(alloc)))?))
+}
+
+fn tell_read<J: Naming>(
+    alloc: Global,
+    session: &mut Session<J>,
+    author: i128,
+) -> Result<Told, Refused> {
+    let answer = read(alloc, session, VIEW, &Value::Int(author))?;
+    Ok(compared(alloc, session.plan(), author, &answer)?)
+}
+
+fn tell_text<J: Naming>(alloc: Global, session: &mut Session<J>) -> Result<Told, Refused> {
+    let text = Value::Text(String::from_str(alloc, "x")?);
+    read(alloc, session, VIEW, &text)?;
+    Ok(Told::Wrong)
+}
+
+fn tell_try<J: Naming>(
+    alloc: Global,
+    session: &mut Session<J>,
+    view: &str,
+    author: i128,
+) -> Result<Told, Refused> {
+    match try_read(alloc, session, view, &Value::Int(author))? {
+        Found::Hit(answer) => Ok(compared(alloc, session.plan(), author, &answer)?),
+        Found::Miss => Ok(Told::Miss),
+    }
+}
+
+fn told_of(accepted: Accepted) -> Told {
+    match accepted {
+        Accepted {
+            table: 0,
+            shard: 0,
+            index,
+        } => Told::Index(index),
+        _ => Told::Wrong,
+    }
+}
+
+// The note of this number.
+pub fn numbered(alloc: Global, id: u64) -> Result<Row, AllocError> {
+    note(alloc, i128::from(id), if id % 2 == 0 { 7 } else { 8 })
+}
+
+// Compares the answer for the author with the evaluator's over the cut that it names, where note
+// after note was inserted.
+fn compared(alloc: Global, plan: &Plan, author: i128, answer: &Answer) -> Result<Told, AllocError> {
+    let len = answer.cut.len(0, 0);
+    let lines = lines_of(alloc, len)?;
+    if plan.views() == 0 || !are_lines(plan, &lines) {
+        return Ok(Told::Wrong);
+    }
+    let rows = query::answer(alloc, plan, &lines, 0, &Value::Int(author))?;
+    if rows == answer.rows {
+        Ok(Told::Rows(len, rows.len()))
+    } else {
+        Ok(Told::Wrong)
+    }
+}
+
+// The line of one log with so many notes, inserted one after the other.
+fn lines_of(alloc: Global, notes: u64) -> Result<Vec<Line>, AllocError> {
+    let mut entries = Vec::new(alloc);
+    for id in 0..notes {
+        entries.push(Entry::Insert(numbered(alloc, id)?))?;
+    }
+    let line = Line::new(vec![in alloc; Front::new(entries)]?);
+    Ok(vec![in alloc; line]?)
+}
