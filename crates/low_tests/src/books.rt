@@ -1,4 +1,4 @@
-//! A book that is opened, words that two writers share, cuts and floors.
+//! A book that is opened, words that two writers share, and cuts.
 ghost use Rattle.std.specs.Prelude.{◌≡◌, ℕ, [], ◌∷◌, IfOk, codes, pos};
 ghost use Rattle.row.specs.Cells.{int, text};
 ghost use Rattle.plan.specs.Recipes.{notes_plan};
@@ -19,22 +19,30 @@ use std::marker::Brand;
 use std::test::Fail;
 
 /// What is done with an open book.
-#[derive(Clone, Copy, Drop)]
+#[derive(Clone, Copy, Debug, Drop)]
 enum Scene {
-    Appends,
-    Answers,
-    Fences,
+    Append,
+    Answer,
+    Fence,
     Zeros,
 }
 
-/// Whether a book of the built-in plan and one session does as it is to.
-fn run(alloc: Global, scene: Scene) -> Result<bool, AllocError> {
-    let plan = Plan::built_in(alloc)?;
-    let opened = Opened::new(alloc, &plan, 1)?;
-    run_named::<Brand>(alloc, opened, &plan, scene)
+#[test]
+fn words_take_one_of_two_items(rt: HostRuntime) -> Result<(), Fail> {
+    for scene in [Scene::Append, Scene::Answer, Scene::Fence, Scene::Zeros] {
+        assert!(rt; is_right(rt.alloc(), scene)?, "{scene:?}");
+    }
+    Ok(())
 }
 
-fn run_named<J: Naming>(
+/// Whether a book of the built-in plan and one session does as it is to.
+fn is_right(alloc: Global, scene: Scene) -> Result<bool, AllocError> {
+    let plan = Plan::built_in(alloc)?;
+    let opened = Opened::new(alloc, &plan, 1)?;
+    run::<Brand>(alloc, opened, &plan, scene)
+}
+
+fn run<J: Naming>(
     alloc: Global,
     opened: Opened,
     plan: &Plan,
@@ -47,35 +55,10 @@ fn run_named<J: Naming>(
 {
     let (book, front) = opened.named::<J>(0);
     match scene {
-        Scene::Appends => appends_once(alloc, &book, &front),
-        Scene::Answers => answers_once(alloc, plan, &book, &front),
-        Scene::Fences => fences_once(alloc, plan, &book, &front),
+        Scene::Append => appends_once(alloc, &book, &front),
+        Scene::Answer | Scene::Fence => adds_once(alloc, plan, &book, &front, scene),
         Scene::Zeros => has_zeros(alloc, plan, &front),
     }
-}
-
-#[test]
-fn one_of_two_appends_is_taken(rt: HostRuntime) -> Result<(), Fail> {
-    assert!(rt; run(rt.alloc(), Scene::Appends)?);
-    Ok(())
-}
-
-#[test]
-fn one_of_two_answers_is_taken(rt: HostRuntime) -> Result<(), Fail> {
-    assert!(rt; run(rt.alloc(), Scene::Answers)?);
-    Ok(())
-}
-
-#[test]
-fn one_of_two_fences_is_taken(rt: HostRuntime) -> Result<(), Fail> {
-    assert!(rt; run(rt.alloc(), Scene::Fences)?);
-    Ok(())
-}
-
-#[test]
-fn a_cut_of_empty_fronts_has_zeros(rt: HostRuntime) -> Result<(), Fail> {
-    assert!(rt; run(rt.alloc(), Scene::Zeros)?);
-    Ok(())
 }
 
 fn note(alloc: Global) -> Result<Row, AllocError>
@@ -122,12 +105,14 @@ fn appends_once<J: Naming>(
     Ok(one && !other && catches_up(book, &mut second))
 }
 
-/// Whether a read of key 7 over the empty front of the only source is taken.
-fn answers<J: Naming>(
+/// Whether a new word of the session takes a fence, or else a read of key 7, over the empty front
+/// of the only source.
+fn adds<J: Naming>(
     alloc: Global,
     plan: &Plan,
     book: &Book<J>,
     front: &Front<J>,
+    scene: Scene,
 ) -> Result<bool, AllocError>
     requires plan { (plan.now ≡ J.plan) × (J.plan ≡ notes_plan) }
     requires sessions { J.sessions ≡ 1 }
@@ -136,54 +121,27 @@ fn answers<J: Naming>(
     let mut word = SessionWord::first(alloc, plan, 0, front)?;
     let mut fronts = Vec::new(alloc);
     fronts.push(front.again())?;
-    let cut = Cut::even(alloc, plan, &front.part(), fronts.as_slice())?;
-    let rows = Vec::new(alloc);
-    Ok(word.answer(book, 0, 0, &Value::Int(7), &rows, cut))
+    if let Scene::Fence = scene {
+        let cuts = Cuts::even(alloc, plan, &front.part(), fronts.as_slice())?;
+        Ok(word.fence(book, &Vec::new(alloc), cuts))
+    } else {
+        let cut = Cut::even(alloc, plan, &front.part(), fronts.as_slice())?;
+        Ok(word.answer(book, 0, 0, &Value::Int(7), &Vec::new(alloc), cut))
+    }
 }
 
-fn answers_once<J: Naming>(
+fn adds_once<J: Naming>(
     alloc: Global,
     plan: &Plan,
     book: &Book<J>,
     front: &Front<J>,
+    scene: Scene,
 ) -> Result<bool, AllocError>
     requires plan { (plan.now ≡ J.plan) × (J.plan ≡ notes_plan) }
     requires sessions { J.sessions ≡ 1 }
     requires front { (front.now.base ≡ 0) × (front.now.len ≡ 0) }
 {
-    Ok(answers(alloc, plan, book, front)? && !answers(alloc, plan, book, front)?)
-}
-
-/// Whether a fence with no place of its own at the empty front of the only source is taken.
-fn fences<J: Naming>(
-    alloc: Global,
-    plan: &Plan,
-    book: &Book<J>,
-    front: &Front<J>,
-) -> Result<bool, AllocError>
-    requires plan { (plan.now ≡ J.plan) × (J.plan ≡ notes_plan) }
-    requires sessions { J.sessions ≡ 1 }
-    requires front { (front.now.base ≡ 0) × (front.now.len ≡ 0) }
-{
-    let mut word = SessionWord::first(alloc, plan, 0, front)?;
-    let mut fronts = Vec::new(alloc);
-    fronts.push(front.again())?;
-    let cuts = Cuts::even(alloc, plan, &front.part(), fronts.as_slice())?;
-    let own = Vec::new(alloc);
-    Ok(word.fence(book, &own, cuts))
-}
-
-fn fences_once<J: Naming>(
-    alloc: Global,
-    plan: &Plan,
-    book: &Book<J>,
-    front: &Front<J>,
-) -> Result<bool, AllocError>
-    requires plan { (plan.now ≡ J.plan) × (J.plan ≡ notes_plan) }
-    requires sessions { J.sessions ≡ 1 }
-    requires front { (front.now.base ≡ 0) × (front.now.len ≡ 0) }
-{
-    Ok(fences(alloc, plan, book, front)? && !fences(alloc, plan, book, front)?)
+    Ok(adds(alloc, plan, book, front, scene)? && !adds(alloc, plan, book, front, scene)?)
 }
 
 fn is_printed(alloc: Global, lengths: &Lengths, text: &str) -> Result<bool, AllocError> {

@@ -1,67 +1,13 @@
-//! The built-in plan, the texts of its places, and which rows, keys and conditions fit.
+//! The texts of the built-in plan's places, and which values a column takes.
 use crate::cells::Cell::{self, Int, Text};
-use crate::cells::{row, value};
-use plan::domain::{DomainId, Edge, Tag};
-use plan::kinds::Op;
+use crate::cells::value;
+use plan::domain::{DomainId, Edge};
+use plan::kinds::Kind;
 use plan::plan::Plan;
-use plan::stage::{Condition, Side};
-use row::row::Row;
-use row::value::Value;
 use std::alloc::{AllocError, Global};
 use std::test::Fail;
 
-const STAGE: DomainId = DomainId::Stage(0);
-
-const VIEW: DomainId = DomainId::View(0, 0);
-
-const DOMAINS: [(DomainId, &str); 3] = [
-    (DomainId::Base(0, 0), "notes.0"),
-    (STAGE, "stage.0"),
-    (VIEW, "by_author.0"),
-];
-
-// The helpers below have no clause, so that what a call says is not carried on to the next one.
-fn has_text(alloc: Global, plan: &Plan, domain: DomainId, text: &str) -> Result<bool, AllocError> {
-    Ok(plan.domain_text(alloc, domain)?.as_str() == text)
-}
-
-fn domain_named(alloc: Global, plan: &Plan, text: &str) -> Result<Option<DomainId>, AllocError> {
-    plan.domain_named(alloc, text)
-}
-
-/// The first text that is not the one that its domain has.
-fn other_text(alloc: Global, plan: &Plan) -> Result<Option<&'static str>, AllocError> {
-    for (domain, text) in DOMAINS {
-        let named = domain_named(alloc, plan, text)?;
-        if named != Some(domain) || !has_text(alloc, plan, domain, text)? {
-            return Ok(Some(text));
-        }
-    }
-    Ok(None)
-}
-
-#[test]
-fn domains_have_texts(rt: HostRuntime) -> Result<(), Fail> {
-    let plan = Plan::built_in(rt.alloc())?;
-    let other = other_text(rt.alloc(), &plan)?;
-    assert!(rt; other.is_none(), "{other:?}");
-    Ok(())
-}
-
-#[test]
-fn no_domain_has_another_text(rt: HostRuntime) -> Result<(), Fail> {
-    let plan = Plan::built_in(rt.alloc())?;
-    let found = domain_named(rt.alloc(), &plan, "stage.00")?;
-    assert!(rt; found.is_none(), "{found:?}");
-    Ok(())
-}
-
-const EDGES: &str = "notes.0>stage.0
-stage.0>by_author.0
-by_author.0>stage.0
-stage.0>notes.0
-";
-
+// The helpers have no clause, so that what a call says is not carried on to the next one.
 fn edges(alloc: Global, plan: &Plan) -> Result<Vec<Edge>, AllocError> {
     plan.edges(alloc)
 }
@@ -80,116 +26,71 @@ fn have_texts(alloc: Global, plan: &Plan, texts: &str) -> Result<bool, AllocErro
     Ok(lines.as_str() == texts)
 }
 
-fn edge_named(alloc: Global, plan: &Plan, text: &str) -> Result<Option<Edge>, AllocError> {
-    plan.edge_named(alloc, text)
-}
-
-fn has_one_tag(plan: &Plan) -> bool {
-    plan.tags() == [Tag(1)].as_slice()
-}
-
-fn has_edges(alloc: Global, plan: &Plan) -> Result<bool, AllocError> {
-    let edge = Edge {
-        from: STAGE,
-        to: VIEW,
-    };
-    let named = edge_named(alloc, plan, "stage.0>by_author.0")?;
-    Ok(named == Some(edge) && have_texts(alloc, plan, EDGES)? && has_one_tag(plan))
-}
+const EDGES: &str = "notes.0>stage.0
+stage.0>by_author.0
+by_author.0>stage.0
+stage.0>notes.0
+";
 
 #[test]
 fn edges_have_texts(rt: HostRuntime) -> Result<(), Fail> {
     let plan = Plan::built_in(rt.alloc())?;
-    assert!(rt; has_edges(rt.alloc(), &plan)?);
+    assert!(rt; have_texts(rt.alloc(), &plan, EDGES)?);
     Ok(())
 }
 
-const ROWS: [(&[Cell], bool); 5] = [
-    (&[Int(1), Int(7), Text("a")], true),
-    (&[Int(9223372036854775808), Int(7), Text("a")], false),
-    (&[Int(1), Int(7), Text("a\tb")], false),
-    (&[Int(1), Text("7"), Text("a")], false),
-    (&[Int(1), Int(7)], false),
-];
-
-fn takes(plan: &Plan, row: &Row) -> bool {
-    plan.tables() == 1 && plan.table(0).takes(row)
+fn domain_named(alloc: Global, plan: &Plan, text: &str) -> Result<Option<DomainId>, AllocError> {
+    plan.domain_named(alloc, text)
 }
 
-/// The place of the first row that is not judged so.
-fn other_row(alloc: Global, plan: &Plan) -> Result<Option<usize>, AllocError> {
-    for (at, (cells, fits)) in ROWS.iter().enumerate() {
-        if takes(plan, &row(alloc, cells)?) != *fits {
-            return Ok(Some(at));
-        }
-    }
-    Ok(None)
+fn edge_named(alloc: Global, plan: &Plan, text: &str) -> Result<Option<Edge>, AllocError> {
+    plan.edge_named(alloc, text)
+}
+
+const STAGE: DomainId = DomainId::Stage(0);
+
+const VIEW: DomainId = DomainId::View(0, 0);
+
+const EDGE: Edge = Edge {
+    from: STAGE,
+    to: VIEW,
+};
+
+fn are_named(alloc: Global, plan: &Plan) -> Result<bool, AllocError> {
+    Ok(
+        domain_named(alloc, plan, "notes.0")? == Some(DomainId::Base(0, 0))
+            && domain_named(alloc, plan, "stage.0")? == Some(STAGE)
+            && domain_named(alloc, plan, "by_author.0")? == Some(VIEW)
+            && domain_named(alloc, plan, "stage.00")?.is_none()
+            && edge_named(alloc, plan, "stage.0>by_author.0")? == Some(EDGE),
+    )
 }
 
 #[test]
-fn rows_fit_their_table(rt: HostRuntime) -> Result<(), Fail> {
+fn places_are_named(rt: HostRuntime) -> Result<(), Fail> {
     let plan = Plan::built_in(rt.alloc())?;
-    let other = other_row(rt.alloc(), &plan)?;
-    assert!(rt; other.is_none(), "{other:?}");
+    assert!(rt; are_named(rt.alloc(), &plan)?);
     Ok(())
 }
 
-const KEYS: [(Cell, bool); 3] = [
-    (Int(-9223372036854775808), true),
-    (Int(-9223372036854775809), false),
-    (Text("1"), false),
-];
-
-fn takes_key(plan: &Plan, key: &Value) -> bool {
-    plan.tables() == 1 && plan.table(0).takes_key(key)
-}
-
-/// The place of the first key that is not judged so.
-fn other_key(alloc: Global, plan: &Plan) -> Result<Option<usize>, AllocError> {
-    for (at, (cell, fits)) in KEYS.iter().enumerate() {
-        if takes_key(plan, &value(alloc, *cell)?) != *fits {
-            return Ok(Some(at));
-        }
-    }
-    Ok(None)
-}
-
-#[test]
-fn keys_fit_their_table(rt: HostRuntime) -> Result<(), Fail> {
-    let plan = Plan::built_in(rt.alloc())?;
-    let other = other_key(rt.alloc(), &plan)?;
-    assert!(rt; other.is_none(), "{other:?}");
-    Ok(())
-}
-
-/// A side whose second value is to be above 0 and below 7.
-fn side(alloc: Global) -> Result<Side, AllocError> {
-    let mut conditions = Vec::new(alloc);
-    conditions.push(Condition::new(1, Op::Greater, Value::Int(0)))?;
-    conditions.push(Condition::new(1, Op::Less, Value::Int(7)))?;
-    Ok(Side::new(0, 0, conditions))
-}
-
-fn passes(side: &Side, row: &Row) -> bool {
-    side.pass(row)
-}
-
-/// Every text comes after every number.
-const PASSED: [(&[Cell], bool); 5] = [
-    (&[Int(1), Int(5)], true),
-    (&[Int(1), Int(-3)], false),
-    (&[Int(1), Int(7)], false),
-    (&[Int(1), Text("5")], false),
-    (&[Int(1)], false),
+const TAKEN: [(Kind, Cell, bool); 9] = [
+    (Kind::Int, Int(-9223372036854775808), true),
+    (Kind::Int, Int(-9223372036854775809), false),
+    (Kind::Int, Int(9223372036854775807), true),
+    (Kind::Int, Int(9223372036854775808), false),
+    (Kind::Int, Text("1"), false),
+    (Kind::Text, Text(" ~"), true),
+    (Kind::Text, Text("a\tb"), false),
+    (Kind::Text, Text("\x7f"), false),
+    (Kind::Text, Int(1), false),
 ];
 
 #[test]
-fn all_conditions_must_hold(rt: HostRuntime) -> Result<(), Fail> {
-    let side = side(rt.alloc())?;
-    for (at, (cells, want)) in PASSED.iter().enumerate() {
+fn columns_take_cells_of_their_kind(rt: HostRuntime) -> Result<(), Fail> {
+    for (at, (kind, cell, want)) in TAKEN.iter().enumerate() {
         assert!(rt;
-            passes(&side, &row(rt.alloc(), cells)?) == *want,
-            "row {at}"
+            kind.takes(&value(rt.alloc(), *cell)?) == *want,
+            "case {at}"
         );
     }
     Ok(())

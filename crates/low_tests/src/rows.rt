@@ -1,9 +1,8 @@
-//! Values, rows, bags and refusals.
+//! Values, rows and bags.
 use crate::cells::Cell::{self, Int, Text};
 use crate::cells::{row, value};
 use row::bag::Bag;
 use row::record::{Record, Sign};
-use row::refused::Refused;
 use row::value::shard_of;
 use std::alloc::{AllocError, Global};
 use std::cmp::Ordering;
@@ -152,22 +151,4 @@ fn is_copied(alloc: Global) -> Result<bool, AllocError> {
 fn a_record_is_copied_whole(rt: HostRuntime) -> Result<(), Fail> {
     assert!(rt; is_copied(rt.alloc())?);
     Ok(())
-}
-
-/// The first and the last of the refusals that come one after the other.
-const REFUSALS: [(Refused, u8, &str); 4] = [
-    (Refused::NoMemory, 1, "NoMemory"),
-    (Refused::UnknownPlace, 15, "UnknownPlace"),
-    (Refused::BadScript, 30, "BadScript"),
-    (Refused::NotYet, 33, "NotYet"),
-];
-
-#[test]
-fn a_refusal_has_its_number_and_name(rt: HostRuntime) {
-    for (refused, number, name) in REFUSALS {
-        assert!(rt;
-            refused.number() == number && refused.name() == name,
-            "{name}"
-        );
-    }
 }
