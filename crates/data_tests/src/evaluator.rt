@@ -50,6 +50,7 @@ fn ask(alloc: Global, plan: &Plan, lines: &[Line], key: &str) -> Result<String, 
 }
 
 /// A read of the view: what is told, the line of each stage shard, the key, and the answer.
+#[derive(Drop)]
 struct Read {
     told: Option<Aggregate>,
     lines: [&'static str; 2],

@@ -16,6 +16,7 @@ use std::test::Fail;
 type Bags = Partial<Value, Bag>;
 
 /// A call.
+#[derive(Drop)]
 enum Call {
     /// The key begins to wait.
     Begin(&'static str),

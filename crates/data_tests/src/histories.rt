@@ -14,6 +14,7 @@ use std::test::Fail;
 type CutOf = [&'static [u64]; 2];
 
 /// An item of a history.
+#[derive(Drop)]
 enum ItemOf {
     /// The session, the number of the call, the base shard, and the entry.
     Write(usize, u64, usize, &'static str),
@@ -136,6 +137,7 @@ fn is_last_allowed(
 }
 
 /// Items, and for each further one what is wrong with it after them, if anything.
+#[derive(Drop)]
 struct Table {
     before: &'static [ItemOf],
     last: &'static [(ItemOf, Option<&'static str>)],

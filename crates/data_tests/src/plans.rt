@@ -9,6 +9,7 @@ use std::alloc::{AllocError, Global};
 use std::test::Fail;
 
 /// A table that is keyed by its first column.
+#[derive(Drop)]
 pub struct TableOf {
     pub name: &'static str,
     pub shards: usize,
@@ -24,6 +25,7 @@ pub struct SideOf {
 }
 
 /// A view that is keyed by a column of the left table.
+#[derive(Drop)]
 pub struct ViewOf {
     pub name: &'static str,
     pub key: usize,
@@ -31,6 +33,7 @@ pub struct ViewOf {
 }
 
 /// A plan with a stage of two shards and one view, but for what is told.
+#[derive(Drop)]
 pub struct PlanOf {
     pub tables: &'static [TableOf],
     pub left: SideOf,

@@ -328,16 +328,18 @@ fn any_records(alloc: Global, seed: &mut u64, rows: &[Row]) -> Result<Vec<Record
     Ok(all)
 }
 
-/// Changes either side a thousand times, and says after how many the output that the steps made is
-/// not the whole one.
-fn changes_until_wrong(alloc: Global, of: Keyed) -> Result<Option<usize>, Fail> {
+/// Changes either side a thousand times, and says after which ten of them the output that the steps
+/// made is not the whole one.
+fn tens_until_wrong(alloc: Global, of: Keyed) -> Result<Option<usize>, Fail> {
     let mut stage = Stage::new(alloc, of.shape, of.left, of.right);
     let mut beside = Beside::new(alloc);
     let mut seed: u64 = 7;
-    for count in 0..1000 {
-        change(alloc, of, &mut stage, &mut beside, &mut seed)?;
+    for ten in 0..100 {
+        for _ in 0..10 {
+            change(alloc, of, &mut stage, &mut beside, &mut seed)?;
+        }
         if !is_whole(alloc, of, &beside)? {
-            return Ok(Some(count));
+            return Ok(Some(ten));
         }
     }
     Ok(None)
@@ -393,7 +395,7 @@ const STAGES: [Keyed; 6] = [
 #[test]
 fn a_thousand_changes_make_the_whole_output(rt: HostRuntime) -> Result<(), Fail> {
     for of in STAGES {
-        let wrong = changes_until_wrong(rt.alloc(), of)?;
+        let wrong = tens_until_wrong(rt.alloc(), of)?;
         assert!(rt; wrong.is_none(), "{wrong:?} of {:?}", of.shape);
     }
     Ok(())
