@@ -11,7 +11,7 @@ use std::alloc::{AllocError, Global};
 use std::test::Fail;
 
 /// The lengths of the sources at each of two stage shards.
-type CutOf = [&'static [u64]; 2];
+type CutOf = &'static [&'static [u64]];
 
 /// An item of a history.
 #[derive(Drop)]
@@ -163,11 +163,11 @@ const CLICKED: &[ItemOf] = &[
     ItemOf::Write(1, 0, 0, "+2 home 7"),
 ];
 
-const BOTH: CutOf = [&[1, 1], &[1, 1]];
+const BOTH: CutOf = &[&[1, 1], &[1, 1]];
 
-const LESS: CutOf = [&[1, 1], &[1, 0]];
+const LESS: CutOf = &[&[1, 1], &[1, 0]];
 
-const MORE: CutOf = [&[1, 1], &[1, 2]];
+const MORE: CutOf = &[&[1, 1], &[1, 2]];
 
 const WRITES: Table = Table {
     before: CLICKED,
@@ -207,7 +207,7 @@ const READS: Table = Table {
 const FENCES: Table = Table {
     before: CLICKED,
     last: &[
-        (ItemOf::Fence(0, &[(1, 0)], &[[&[0, 1], &[0, 1]]]), None),
+        (ItemOf::Fence(0, &[(1, 0)], &[&[&[0, 1], &[0, 1]]]), None),
         (ItemOf::Fence(1, &[(0, 0)], &[LESS]), None),
         (ItemOf::Fence(2, &[], &[BOTH]), Some("no such session")),
         (ItemOf::Fence(0, &[(1, 0)], &[MORE]), Some("past the logs")),
@@ -243,7 +243,7 @@ const AFTER_FENCE: Table = Table {
 const NO_SOURCE: Table = Table {
     before: &[ItemOf::Write(0, 0, 2, "+3")],
     last: &[(
-        ItemOf::Fence(0, &[(2, 0)], &[[&[0, 0], &[0, 0]]]),
+        ItemOf::Fence(0, &[(2, 0)], &[&[&[0, 0], &[0, 0]]]),
         Some("not an own place"),
     )],
 };
@@ -260,14 +260,14 @@ fn each_condition_is_judged(rt: HostRuntime) -> Result<(), Fail> {
     Ok(())
 }
 
-const FIRST: CutOf = [&[0, 1, 1, 1], &[0, 1, 1, 1]];
+const FIRST: CutOf = &[&[0, 1, 1, 1], &[0, 1, 1, 1]];
 
-const SECOND: CutOf = [&[1, 2, 2, 1], &[1, 2, 2, 1]];
+const SECOND: CutOf = &[&[1, 2, 2, 1], &[1, 2, 2, 1]];
 
 /// What a session writes, reads and fences, one call after the other.
 const RUN: Table = Table {
     before: &[
-        ItemOf::Read(0, 0, "7", [&[0, 0, 0, 0], &[0, 0, 0, 0]], ""),
+        ItemOf::Read(0, 0, "7", &[&[0, 0, 0, 0], &[0, 0, 0, 0]], ""),
         ItemOf::Write(0, 0, 1, "+1 7 a"),
         ItemOf::Write(0, 1, 2, "+10 1 1"),
         ItemOf::Write(0, 2, 3, "+11 1 1"),

@@ -59,9 +59,9 @@ fn made_anew(alloc: Global, shape: Shape, before: &str, after: &str) -> Result<S
 
 #[test]
 fn a_left_row_gives_anew_what_changed(rt: HostRuntime) -> Result<(), Fail> {
-    for (shape, before, after, want) in REMADE {
-        let found = made_anew(rt.alloc(), shape, before, after)?;
-        assert!(rt; found.as_str() == want, "{found}, not {want}");
+    for (at, (shape, before, after, want)) in REMADE.iter().enumerate() {
+        let found = made_anew(rt.alloc(), *shape, before, after)?;
+        assert!(rt; found.as_str() == *want, "case {at}: {found}");
     }
     Ok(())
 }

@@ -8,60 +8,48 @@ use row::value::Value;
 use std::alloc::{AllocError, Global};
 use std::test::Fail;
 
-/// A table that is keyed by its first column.
-#[derive(Drop)]
-pub struct TableOf {
-    pub name: &'static str,
-    pub shards: usize,
-    pub columns: &'static [(&'static str, Kind)],
-}
+/// A table that is keyed by its first column: its name, its shards and its columns.
+type TableOf = (&'static str, usize, &'static [(&'static str, Kind)]);
 
 /// A side of the stage, with the column, the comparison and the number of each condition.
 #[derive(Clone, Copy)]
 pub struct SideOf {
-    pub table: usize,
-    pub key: usize,
-    pub conditions: &'static [(usize, Op, i128)],
+    table: usize,
+    key: usize,
+    conditions: &'static [(usize, Op, i128)],
 }
 
-/// A view that is keyed by a column of the left table.
-#[derive(Drop)]
-pub struct ViewOf {
-    pub name: &'static str,
-    pub key: usize,
-    pub shards: usize,
-}
-
-/// A plan with a stage of two shards and one view, but for what is told.
+/// A plan with a stage of two shards, but for what is told. Of the view it has the name, the key
+/// and the shards.
 #[derive(Drop)]
 pub struct PlanOf {
-    pub tables: &'static [TableOf],
+    tables: &'static [TableOf],
     pub left: SideOf,
-    pub right: Option<SideOf>,
-    pub view: ViewOf,
+    right: Option<SideOf>,
+    view: (&'static str, usize, usize),
 }
 
 /// Stories and the votes for them, by author.
 pub const VOTING: PlanOf = PlanOf {
     tables: &[
-        TableOf {
-            name: "stories",
-            shards: 2,
-            columns: &[
+        (
+            "stories",
+            2,
+            &[
                 ("id", Kind::Int),
                 ("author", Kind::Int),
                 ("title", Kind::Text),
             ],
-        },
-        TableOf {
-            name: "votes",
-            shards: 2,
-            columns: &[
+        ),
+        (
+            "votes",
+            2,
+            &[
                 ("vid", Kind::Int),
                 ("story", Kind::Int),
                 ("weight", Kind::Int),
             ],
-        },
+        ),
     ],
     left: SideOf {
         table: 0,
@@ -73,27 +61,19 @@ pub const VOTING: PlanOf = PlanOf {
         key: 1,
         conditions: &[],
     }),
-    view: ViewOf {
-        name: "by_author",
-        key: 1,
-        shards: 2,
-    },
+    view: ("by_author", 1, 2),
 };
 
 /// Clicks on pages that took more than 0 ms and less than 1000, by page; and a table that the
 /// stage does not read.
 pub const CLICKS: PlanOf = PlanOf {
     tables: &[
-        TableOf {
-            name: "clicks",
-            shards: 2,
-            columns: &[("id", Kind::Int), ("page", Kind::Text), ("ms", Kind::Int)],
-        },
-        TableOf {
-            name: "others",
-            shards: 1,
-            columns: &[("id", Kind::Int)],
-        },
+        (
+            "clicks",
+            2,
+            &[("id", Kind::Int), ("page", Kind::Text), ("ms", Kind::Int)],
+        ),
+        ("others", 1, &[("id", Kind::Int)]),
     ],
     left: SideOf {
         table: 0,
@@ -101,25 +81,22 @@ pub const CLICKS: PlanOf = PlanOf {
         conditions: &[(2, Op::Greater, 0), (2, Op::Less, 1000)],
     },
     right: None,
-    view: ViewOf {
-        name: "by_page",
-        key: 1,
-        shards: 1,
-    },
+    view: ("by_page", 1, 1),
 };
 
-fn table(alloc: Global, of: &TableOf) -> Result<Table, AllocError> {
+fn columns(alloc: Global, of: &[(&str, Kind)]) -> Result<Vec<Column>, AllocError> {
     let mut columns = Vec::new(alloc);
-    for (name, kind) in of.columns {
+    for (name, kind) in of {
         columns.push(Column::new(alloc, name, *kind)?)?;
     }
-    Ok(Table::new(String::from_str(alloc, of.name)?, of.shards, 0, columns))
+    Ok(columns)
 }
 
 fn tables(alloc: Global, of: &[TableOf]) -> Result<Vec<Table>, AllocError> {
     let mut tables = Vec::new(alloc);
-    for one in of {
-        tables.push(table(alloc, one)?)?;
+    for (name, shards, columns_of) in of {
+        let columns = columns(alloc, columns_of)?;
+        tables.push(Table::new(String::from_str(alloc, name)?, *shards, 0, columns))?;
     }
     Ok(tables)
 }
@@ -139,9 +116,10 @@ fn right(alloc: Global, of: Option<SideOf>) -> Result<Option<Side>, AllocError> 
     }
 }
 
-fn views(alloc: Global, of: &ViewOf) -> Result<Vec<ViewPlan>, AllocError> {
-    let name = String::from_str(alloc, of.name)?;
-    Ok(vec![in alloc; ViewPlan::new(name, of.key, of.shards, 4)]?)
+fn views(alloc: Global, of: (&str, usize, usize)) -> Result<Vec<ViewPlan>, AllocError> {
+    let (name, key, shards) = of;
+    let name = String::from_str(alloc, name)?;
+    Ok(vec![in alloc; ViewPlan::new(name, key, shards, 4)]?)
 }
 
 fn draft(alloc: Global, of: &PlanOf, told: Option<Aggregate>) -> Result<Draft, AllocError> {
@@ -152,7 +130,7 @@ fn draft(alloc: Global, of: &PlanOf, told: Option<Aggregate>) -> Result<Draft, A
         right: right(alloc, of.right)?,
         aggregate: told,
         cap: 1024,
-        views: views(alloc, &of.view)?,
+        views: views(alloc, of.view)?,
     })
 }
 

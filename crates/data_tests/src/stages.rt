@@ -54,16 +54,11 @@ fn step_right(alloc: Global, stage: &mut Stage, records: &[Record]) -> Result<Ve
 }
 
 /// The shape of a stage, and the column of the stage key on each side.
-#[derive(Clone, Copy, Drop)]
-struct Keyed {
-    shape: Shape,
-    left: usize,
-    right: usize,
-}
+type Keyed = (Shape, usize, usize);
 
 /// The whole output over the rows of both sides, which have the columns and can be told of.
 fn whole(alloc: Global, of: Keyed, lefts: &[Row], rights: &[Row]) -> Result<Bag, Fail> {
-    let Keyed { shape, left, right } = of;
+    let (shape, left, right) = of;
     let lefts_fit = have_column(left, lefts) && can_tell_all(shape.told_of_left(), lefts);
     let rights_fit = have_column(right, rights) && can_tell_all(shape.told_of_right(), rights);
     if !lefts_fit || !rights_fit {
@@ -129,7 +124,8 @@ fn is_whole(alloc: Global, of: Keyed, beside: &Beside) -> Result<bool, Fail> {
 /// Takes the steps, one a line: `left RECORDS > CHANGES` or `right RECORDS > CHANGES`. Gives the
 /// first line that changes something else, or after which the output is not the whole one.
 fn first_wrong<'a>(alloc: Global, of: Keyed, steps: &'a str) -> Result<Option<&'a str>, Fail> {
-    let mut stage = Stage::new(alloc, of.shape, of.left, of.right);
+    let (shape, left, right) = of;
+    let mut stage = Stage::new(alloc, shape, left, right);
     let mut beside = Beside::new(alloc);
     for line in steps.lines() {
         if !is_right(alloc, of, &mut stage, &mut beside, line)? {
@@ -220,61 +216,19 @@ left +1 a;-1 a >
 left -1 a;+1 c > -1 a;+1 c";
 
 const TABLES: [(Keyed, &str); 6] = [
-    (
-        Keyed {
-            shape: Shape::Rows,
-            left: 0,
-            right: 0,
-        },
-        REPEATS,
-    ),
-    (
-        Keyed {
-            shape: Shape::Join,
-            left: 0,
-            right: 0,
-        },
-        TEXTS,
-    ),
-    (
-        Keyed {
-            shape: Shape::Total(Aggregate::Count),
-            left: 0,
-            right: 1,
-        },
-        VOTES,
-    ),
-    (
-        Keyed {
-            shape: Shape::Total(Aggregate::Sum(2)),
-            left: 0,
-            right: 1,
-        },
-        WEIGHTS,
-    ),
-    (
-        Keyed {
-            shape: Shape::Group(Aggregate::Count),
-            left: 1,
-            right: 1,
-        },
-        NUMBERS,
-    ),
-    (
-        Keyed {
-            shape: Shape::Group(Aggregate::Sum(2)),
-            left: 1,
-            right: 1,
-        },
-        PAGES,
-    ),
+    ((Shape::Rows, 0, 0), REPEATS),
+    ((Shape::Join, 0, 0), TEXTS),
+    ((Shape::Total(Aggregate::Count), 0, 1), VOTES),
+    ((Shape::Total(Aggregate::Sum(2)), 0, 1), WEIGHTS),
+    ((Shape::Group(Aggregate::Count), 1, 1), NUMBERS),
+    ((Shape::Group(Aggregate::Sum(2)), 1, 1), PAGES),
 ];
 
 #[test]
 fn steps_change_the_output(rt: HostRuntime) -> Result<(), Fail> {
     for (of, steps) in TABLES {
         let wrong = first_wrong(rt.alloc(), of, steps)?;
-        assert!(rt; wrong.is_none(), "{wrong:?} of {:?}", of.shape);
+        assert!(rt; wrong.is_none(), "{wrong:?} of {of:?}");
     }
     Ok(())
 }
@@ -331,7 +285,8 @@ fn any_records(alloc: Global, seed: &mut u64, rows: &[Row]) -> Result<Vec<Record
 /// Changes either side a thousand times, and says after which ten of them the output that the steps
 /// made is not the whole one.
 fn tens_until_wrong(alloc: Global, of: Keyed) -> Result<Option<usize>, Fail> {
-    let mut stage = Stage::new(alloc, of.shape, of.left, of.right);
+    let (shape, left, right) = of;
+    let mut stage = Stage::new(alloc, shape, left, right);
     let mut beside = Beside::new(alloc);
     let mut seed: u64 = 7;
     for ten in 0..100 {
@@ -360,43 +315,19 @@ fn change(
 
 /// The six stages, each with the third column as what is summed.
 const STAGES: [Keyed; 6] = [
-    Keyed {
-        shape: Shape::Rows,
-        left: 0,
-        right: 1,
-    },
-    Keyed {
-        shape: Shape::Join,
-        left: 0,
-        right: 1,
-    },
-    Keyed {
-        shape: Shape::Total(Aggregate::Count),
-        left: 0,
-        right: 1,
-    },
-    Keyed {
-        shape: Shape::Total(Aggregate::Sum(2)),
-        left: 0,
-        right: 1,
-    },
-    Keyed {
-        shape: Shape::Group(Aggregate::Count),
-        left: 1,
-        right: 1,
-    },
-    Keyed {
-        shape: Shape::Group(Aggregate::Sum(2)),
-        left: 1,
-        right: 1,
-    },
+    (Shape::Rows, 0, 1),
+    (Shape::Join, 0, 1),
+    (Shape::Total(Aggregate::Count), 0, 1),
+    (Shape::Total(Aggregate::Sum(2)), 0, 1),
+    (Shape::Group(Aggregate::Count), 1, 1),
+    (Shape::Group(Aggregate::Sum(2)), 1, 1),
 ];
 
 #[test]
 fn a_thousand_changes_make_the_whole_output(rt: HostRuntime) -> Result<(), Fail> {
     for of in STAGES {
         let wrong = tens_until_wrong(rt.alloc(), of)?;
-        assert!(rt; wrong.is_none(), "{wrong:?} of {:?}", of.shape);
+        assert!(rt; wrong.is_none(), "{wrong:?} of {of:?}");
     }
     Ok(())
 }
