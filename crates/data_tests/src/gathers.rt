@@ -3,7 +3,7 @@ ghost use Rattle.std.specs.Prelude.{List, IfOk};
 ghost use Rattle.row.specs.Cells.{Cells};
 ghost use Rattle.row.specs.Changes.{IsCovered};
 
-use crate::words::{row, rows, value};
+use crate::words::{push_row, row, rows, value};
 use partial::gather::Gather;
 use partial::partial::{Evicted, Partial};
 use row::bag::Bag;
@@ -126,7 +126,7 @@ fn push_key(alloc: Global, text: &mut String, key: &Value, bag: &Bag) -> Result<
     text.push(':')?;
     for row in bag.rows() {
         text.push(' ')?;
-        text.push_str(row.to_string(alloc)?.as_str())?;
+        push_row(alloc, text, row)?;
     }
     text.push(';')
 }

@@ -94,11 +94,10 @@ impl Beside {
     }
 }
 
-/// Takes the records of one side, and gives what they change of the output, where the output is
-/// then the whole one.
+/// Takes the records of one side into the stage and the plain bags, and gives what they change of
+/// the output.
 fn step(
     alloc: Global,
-    of: Keyed,
     stage: &mut Stage,
     beside: &mut Beside,
     is_left: bool,
@@ -121,101 +120,135 @@ fn is_whole(alloc: Global, of: Keyed, beside: &Beside) -> Result<bool, Fail> {
     Ok(whole.rows() == beside.shown.rows())
 }
 
-/// Takes the steps, one a line: `left RECORDS > CHANGES` or `right RECORDS > CHANGES`. Gives the
-/// first line that changes something else, or after which the output is not the whole one.
-fn first_wrong<'a>(alloc: Global, of: Keyed, steps: &'a str) -> Result<Option<&'a str>, Fail> {
-    let (shape, left, right) = of;
-    let mut stage = Stage::new(alloc, shape, left, right);
-    let mut beside = Beside::new(alloc);
-    for line in steps.lines() {
-        if !is_right(alloc, of, &mut stage, &mut beside, line)? {
-            return Ok(Some(line));
-        }
-    }
-    Ok(None)
-}
-
-/// The side of a step, its records and its changes.
-fn parts(line: &str) -> Option<(bool, &str, &str)> {
-    let (step, changes) = line.split_once(" >")?;
-    let (side, records) = step.split_once(' ')?;
-    Some((side == "left", records, changes.trim_start()))
-}
+/// A step: whether it is one of left rows, its records, and what it changes of the output.
+type Step = (bool, &'static str, &'static str);
 
 fn is_right(
     alloc: Global,
     of: Keyed,
     stage: &mut Stage,
     beside: &mut Beside,
-    line: &str,
+    one: &Step,
 ) -> Result<bool, Fail> {
-    let Some((is_left, words, want)) = parts(line) else {
-        return Ok(false);
-    };
-    let changes = step(alloc, of, stage, beside, is_left, &records(alloc, words)?)?;
-    Ok(written_records(alloc, &changes)?.as_str() == want && is_whole(alloc, of, beside)?)
+    let (is_left, words, want) = one;
+    let changes = step(alloc, stage, beside, *is_left, &records(alloc, words)?)?;
+    Ok(written_records(alloc, &changes)?.as_str() == *want && is_whole(alloc, of, beside)?)
 }
 
-const VOTES: &str = "right +10 1 1 >
-left +1 7 a > +1 7 a 1
-right +11 1 1 > -1 7 a 1;+1 7 a 2
-left +2 7 b >
-left +3 8 c >
-right -10 1 1;+10 2 1 > -1 7 a 2;+1 7 a 1;+2 7 b 1
-right +12 4 1 >
-left +4 7 d > +4 7 d 1
-right +13 1 1 > -1 7 a 1;+1 7 a 2
-right -13 1 1;+13 1 1 >
-right +14 1 1;-13 1 1 >
-left -1 7 a;+1 9 a > -1 7 a 2;+1 9 a 2
-left -1 9 a;+1 9 a >
-right -12 4 1 > -4 7 d 1
-right -11 1 1;-14 1 1 > -1 9 a 2
-right +15 1 1 > +1 9 a 1
-left -1 9 a > -1 9 a 1
-left ; >";
+/// The place of the first step that changes something else, or after which the output is not the
+/// whole one.
+fn first_wrong(alloc: Global, of: Keyed, steps: &[Step]) -> Result<Option<usize>, Fail> {
+    let (shape, left, right) = of;
+    let mut stage = Stage::new(alloc, shape, left, right);
+    let mut beside = Beside::new(alloc);
+    for (at, step) in steps.iter().enumerate() {
+        if !is_right(alloc, of, &mut stage, &mut beside, step)? {
+            return Ok(Some(at));
+        }
+    }
+    Ok(None)
+}
 
-const WEIGHTS: &str = "left +1 7 a;+2 7 b >
-right +10 1 9223372036854775807 > +1 7 a 9223372036854775807
-right +11 1 9223372036854775807 > -1 7 a 9223372036854775807;+1 7 a 18446744073709551614
-right +12 2 -9223372036854775808;+13 2 -9223372036854775808 > +2 7 b -18446744073709551616
-right -11 1 9223372036854775807;+11 2 9223372036854775807 > -1 7 a 18446744073709551614;-2 7 b -18446744073709551616;+1 7 a 9223372036854775807;+2 7 b -9223372036854775809
-right -10 1 9223372036854775807;+10 1 0 > -1 7 a 9223372036854775807;+1 7 a 0
-right -10 1 0 > -1 7 a 0
-right +14 2 5;+15 2 -5 >";
+const LEFT: bool = true;
 
-const TEXTS: &str = "left +ab 1 >
-right +ab 5 > +ab 1 ab 5
-left +\"\" 2 >
-right +\"\" 6 > +\"\" 2 \"\" 6
-left +ab 1 > +ab 1 ab 5
-right +ab 5 > +ab 1 ab 5;+ab 1 ab 5
-left -ab 1 > -ab 1 ab 5;-ab 1 ab 5
-right -ab 5;+\"\" 5 > -ab 1 ab 5;+\"\" 2 \"\" 5
-left +5 1;+\"\" 2 > +\"\" 2 \"\" 5;+\"\" 2 \"\" 6";
+const RIGHT: bool = false;
 
-const PAGES: &str = "left +1 home 5 > +home 5
-left +3 home 7 > -home 5;+home 12
-left -1 home 5 > -home 12;+home 7
-left +4 away 7 > +away 7
-left -3 home 7 > -home 7
-left +5 home 1;+6 home -1 > +home 0
-left -5 home 1;-6 home -1;-4 away 7;+4 home 7 > -away 7;-home 0;+home 7
-right +9 home 9 >";
+const VOTES: &[Step] = &[
+    (RIGHT, "+10 1 1", ""),
+    (LEFT, "+1 7 a", "+1 7 a 1"),
+    (RIGHT, "+11 1 1", "-1 7 a 1;+1 7 a 2"),
+    (LEFT, "+2 7 b", ""),
+    (LEFT, "+3 8 c", ""),
+    (RIGHT, "-10 1 1;+10 2 1", "-1 7 a 2;+1 7 a 1;+2 7 b 1"),
+    (RIGHT, "+12 4 1", ""),
+    (LEFT, "+4 7 d", "+4 7 d 1"),
+    (RIGHT, "+13 1 1", "-1 7 a 1;+1 7 a 2"),
+    (RIGHT, "-13 1 1;+13 1 1", ""),
+    (RIGHT, "+14 1 1;-13 1 1", ""),
+    (LEFT, "-1 7 a;+1 9 a", "-1 7 a 2;+1 9 a 2"),
+    (LEFT, "-1 9 a;+1 9 a", ""),
+    (RIGHT, "-12 4 1", "-4 7 d 1"),
+    (RIGHT, "-11 1 1;-14 1 1", "-1 9 a 2"),
+    (RIGHT, "+15 1 1", "+1 9 a 1"),
+    (LEFT, "-1 9 a", "-1 9 a 1"),
+    (LEFT, "", ""),
+];
 
-const NUMBERS: &str = "left +1 home 5;+1 home 5 > +home 2
-left +2 away 5 > +away 1
-left -1 home 5;+3 home 5 >
-left -1 home 5;-3 home 5 > -home 2
-left -2 away 5;+2 home 5 > -away 1;+home 1";
+const WEIGHTS: &[Step] = &[
+    (LEFT, "+1 7 a;+2 7 b", ""),
+    (
+        RIGHT,
+        "+10 1 9223372036854775807",
+        "+1 7 a 9223372036854775807",
+    ),
+    (
+        RIGHT,
+        "+11 1 9223372036854775807",
+        "-1 7 a 9223372036854775807;+1 7 a 18446744073709551614",
+    ),
+    (
+        RIGHT,
+        "+12 2 -9223372036854775808;+13 2 -9223372036854775808",
+        "+2 7 b -18446744073709551616",
+    ),
+    (
+        RIGHT,
+        "-11 1 9223372036854775807;+11 2 9223372036854775807",
+        "-1 7 a 18446744073709551614;-2 7 b -18446744073709551616;+1 7 a 9223372036854775807;+2 7 b -9223372036854775809",
+    ),
+    (
+        RIGHT,
+        "-10 1 9223372036854775807;+10 1 0",
+        "-1 7 a 9223372036854775807;+1 7 a 0",
+    ),
+    (RIGHT, "-10 1 0", "-1 7 a 0"),
+    (RIGHT, "+14 2 5;+15 2 -5", ""),
+];
 
-const REPEATS: &str = "left +1 a;+1 a;+2 b > +1 a;+1 a;+2 b
-left -1 a > -1 a
-right +1 x >
-left +1 a;-1 a >
-left -1 a;+1 c > -1 a;+1 c";
+const TEXTS: &[Step] = &[
+    (LEFT, "+ab 1", ""),
+    (RIGHT, "+ab 5", "+ab 1 ab 5"),
+    (LEFT, "+\"\" 2", ""),
+    (RIGHT, "+\"\" 6", "+\"\" 2 \"\" 6"),
+    (LEFT, "+ab 1", "+ab 1 ab 5"),
+    (RIGHT, "+ab 5", "+ab 1 ab 5;+ab 1 ab 5"),
+    (LEFT, "-ab 1", "-ab 1 ab 5;-ab 1 ab 5"),
+    (RIGHT, "-ab 5;+\"\" 5", "-ab 1 ab 5;+\"\" 2 \"\" 5"),
+    (LEFT, "+5 1;+\"\" 2", "+\"\" 2 \"\" 5;+\"\" 2 \"\" 6"),
+];
 
-const TABLES: [(Keyed, &str); 6] = [
+const PAGES: &[Step] = &[
+    (LEFT, "+1 home 5", "+home 5"),
+    (LEFT, "+3 home 7", "-home 5;+home 12"),
+    (LEFT, "-1 home 5", "-home 12;+home 7"),
+    (LEFT, "+4 away 7", "+away 7"),
+    (LEFT, "-3 home 7", "-home 7"),
+    (LEFT, "+5 home 1;+6 home -1", "+home 0"),
+    (
+        LEFT,
+        "-5 home 1;-6 home -1;-4 away 7;+4 home 7",
+        "-away 7;-home 0;+home 7",
+    ),
+    (RIGHT, "+9 home 9", ""),
+];
+
+const NUMBERS: &[Step] = &[
+    (LEFT, "+1 home 5;+1 home 5", "+home 2"),
+    (LEFT, "+2 away 5", "+away 1"),
+    (LEFT, "-1 home 5;+3 home 5", ""),
+    (LEFT, "-1 home 5;-3 home 5", "-home 2"),
+    (LEFT, "-2 away 5;+2 home 5", "-away 1;+home 1"),
+];
+
+const REPEATS: &[Step] = &[
+    (LEFT, "+1 a;+1 a;+2 b", "+1 a;+1 a;+2 b"),
+    (LEFT, "-1 a", "-1 a"),
+    (RIGHT, "+1 x", ""),
+    (LEFT, "+1 a;-1 a", ""),
+    (LEFT, "-1 a;+1 c", "-1 a;+1 c"),
+];
+
+const TABLES: [(Keyed, &[Step]); 6] = [
     ((Shape::Rows, 0, 0), REPEATS),
     ((Shape::Join, 0, 0), TEXTS),
     ((Shape::Total(Aggregate::Count), 0, 1), VOTES),
@@ -291,25 +324,27 @@ fn tens_until_wrong(alloc: Global, of: Keyed) -> Result<Option<usize>, Fail> {
     let mut seed: u64 = 7;
     for ten in 0..100 {
         for _ in 0..10 {
-            change(alloc, of, &mut stage, &mut beside, &mut seed)?;
+            change(alloc, &mut stage, &mut beside, &mut seed)?;
         }
         if !is_whole(alloc, of, &beside)? {
             return Ok(Some(ten));
         }
+    }
+    if beside.shown.is_empty() {
+        return Err(Fail::from("no output"));
     }
     Ok(None)
 }
 
 fn change(
     alloc: Global,
-    of: Keyed,
     stage: &mut Stage,
     beside: &mut Beside,
     seed: &mut u64,
 ) -> Result<(), Fail> {
     let is_left = next(seed, 2) == 0;
     let records = any_records(alloc, seed, beside.side(is_left).rows())?;
-    step(alloc, of, stage, beside, is_left, &records)?;
+    step(alloc, stage, beside, is_left, &records)?;
     Ok(())
 }
 

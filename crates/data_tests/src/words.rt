@@ -36,6 +36,11 @@ pub fn rows(alloc: Global, text: &str) -> Result<Vec<Row>, AllocError> {
     Ok(all)
 }
 
+/// Adds the row as it is written here.
+pub fn push_row(alloc: Global, text: &mut String, row: &Row) -> Result<(), AllocError> {
+    text.push_str(row.to_string(alloc)?.as_str())
+}
+
 /// The rows as they are written here.
 pub fn written(alloc: Global, rows: &[Row]) -> Result<String, AllocError> {
     let mut text = String::new(alloc);
@@ -43,7 +48,7 @@ pub fn written(alloc: Global, rows: &[Row]) -> Result<String, AllocError> {
         if !text.is_empty() {
             text.push(';')?;
         }
-        text.push_str(row.to_string(alloc)?.as_str())?;
+        push_row(alloc, &mut text, row)?;
     }
     Ok(text)
 }
@@ -77,7 +82,7 @@ pub fn written_records(alloc: Global, records: &[Record]) -> Result<String, Allo
             text.push(';')?;
         }
         text.push(if record.sign == Sign::Plus { '+' } else { '-' })?;
-        text.push_str(record.row.to_string(alloc)?.as_str())?;
+        push_row(alloc, &mut text, &record.row)?;
     }
     Ok(text)
 }
