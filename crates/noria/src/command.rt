@@ -4,9 +4,9 @@ ghost use Rattle.noria.specs.Arguments.{is_run};
 
 use crate::fault::Fault;
 use crate::runner::run_files;
+use crate::texts::Texts;
 use std::alloc::Global;
 use std::io::Write;
-use std::rt::Files;
 use std::sync::Wait;
 use std::thread::Threads;
 
@@ -19,11 +19,14 @@ const USAGE: &str =
 /// or the output was refused, with the refusal on `err`; 2 for any words but `run RECIPE SCRIPT`,
 /// with the usage line there. A failed write to `err` leaves the status as it is. All threads that
 /// it starts have ended.
-pub fn command<
-    R: Threads + Wait + Files + AllocGlobal + Copy + Drop + Send + 'static,
-    O: Write,
-    E: Write,
->(rt: R, alloc: Global, words: &[String], out: &mut O, err: &mut E) -> u8
+pub fn command<R: Threads + Wait + Copy + Drop + Send + 'static, T: Texts, O: Write, E: Write>(
+    rt: R,
+    alloc: Global,
+    words: &[String],
+    texts: &mut T,
+    out: &mut O,
+    err: &mut E,
+) -> u8
     ensures status { result ≤ 2 }
     ensures usage { (result == 2) ≡ not (is_run (map string_bytes words.now)) }
 {
@@ -31,7 +34,7 @@ pub fn command<
         let _ = writeln!(err, "{USAGE}");
         return 2;
     };
-    match run_files(rt, alloc, recipe, script, out) {
+    match run_files(rt, alloc, recipe, script, texts, out) {
         Ok(()) => 0,
         Err(fault) => {
             let _ = writeln!(err, "{fault}");

@@ -9,6 +9,7 @@ mod texts;
 
 use crate::command::command;
 use crate::fault::Fault;
+use crate::texts::FileTexts;
 use row::refused::Refused;
 use std::alloc::AllocError;
 use std::io::Write;
@@ -21,6 +22,7 @@ fn main(rt: HostRuntime) -> ExitCode {
             rt,
             rt.alloc(),
             words.as_slice(),
+            &mut FileTexts(&rt),
             &mut rt.stdout(),
             &mut rt.stderr(),
         ),

@@ -3,7 +3,7 @@ ghost use Rattle.std.specs.Prelude.{◌≡◌};
 
 use crate::fault::Fault;
 use crate::reads::{read, try_read, write_rows};
-use crate::texts::text;
+use crate::texts::Texts;
 use book::book::Opened;
 use book::law::Naming;
 use plan::kinds::Kind;
@@ -17,7 +17,6 @@ use script::script::{Call, read_script};
 use std::alloc::Global;
 use std::io::{BufWriter, Write};
 use std::marker::Brand;
-use std::rt::Files;
 use std::sync::Wait;
 use std::thread::Threads;
 use system::read::Found;
@@ -28,32 +27,29 @@ use system::system::System;
 /// the script's calls in one session, and writes the answer of each. A refused call is a line too,
 /// and the script goes on. Where the output cannot be written, no further call is made. All threads
 /// that it starts have ended.
-pub fn run_files<R: Threads + Wait + Files + AllocGlobal + Copy + Drop + Send + 'static, O: Write>(
+pub fn run_files<R: Threads + Wait + Copy + Drop + Send + 'static, T: Texts, O: Write>(
     rt: R,
     alloc: Global,
     recipe: &str,
     script: &str,
+    texts: &mut T,
     out: &mut O,
 ) -> Result<(), Fault> {
-    let plan = plan_named(&rt, alloc, recipe)?;
-    let calls = calls_named(&rt, alloc, script)?;
+    let plan = plan_named(alloc, recipe, texts)?;
+    let calls = calls_named(alloc, script, texts)?;
     let opened = Opened::new(alloc, &plan, 1)?;
     run_calls::<Brand, R, O>(rt, alloc, opened, plan, calls, out)
 }
 
 // The plan of the recipe of this name.
-fn plan_named<R: Files + AllocGlobal>(rt: &R, alloc: Global, recipe: &str) -> Result<Plan, Fault> {
-    let text = text(rt, recipe)?;
+fn plan_named<T: Texts>(alloc: Global, recipe: &str, texts: &mut T) -> Result<Plan, Fault> {
+    let text = texts.text(recipe)?;
     Ok(from_bytes(alloc, text.as_slice())?)
 }
 
 // The calls of the script of this name.
-fn calls_named<R: Files + AllocGlobal>(
-    rt: &R,
-    alloc: Global,
-    script: &str,
-) -> Result<Vec<Call>, Fault> {
-    let text = text(rt, script)?;
+fn calls_named<T: Texts>(alloc: Global, script: &str, texts: &mut T) -> Result<Vec<Call>, Fault> {
+    let text = texts.text(script)?;
     Ok(read_script(alloc, text.as_slice())?)
 }
 
