@@ -2,9 +2,9 @@
 use crate::plans::{CLICKS, PlanOf, VOTING, plan};
 use crate::words::{entry, rows, value};
 use model::floors::Floors;
+use model::item::{Fence, Item, Read, Write};
 use model::lengths::Lengths;
 use model::place::Place;
-use plain::item::{Fence, Item, Read, Write};
 use plain::legal::verdict;
 use plan::kinds::Aggregate;
 use std::alloc::{AllocError, Global};

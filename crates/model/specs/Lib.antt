@@ -6,5 +6,6 @@ pub mod Histories
 pub mod Printed
 pub mod Cuts
 pub mod Tables
+pub mod Items
 pub mod Refusals
 pub mod Legal

@@ -27,5 +27,8 @@ abbrev pub even_floors : Layout → List ℕ → Floors
 even_floors p line = map (λ (v : ViewLayout). replicate v.shards (replicate p.stages line)) p.views
 
 -- the program's places as those of the definitions
+abbrev pub place_of : Place → PlaceView
+place_of x = record { base = x.base; index = x.index }
+
 abbrev pub places_of : List Place → List PlaceView
-places_of own = map (λ (x : Place). record { base = x.base; index = x.index }) own
+places_of own = map place_of own

@@ -5,6 +5,7 @@
 mod display;
 pub mod entry;
 pub mod floors;
+pub mod item;
 pub mod lengths;
 pub mod place;
 pub mod places;

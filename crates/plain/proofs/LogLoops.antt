@@ -7,8 +7,8 @@ use Rattle.plain.proofs.Loops.{flat_more}
 use Rattle.plan.specs.Layouts.{Layout}
 use Rattle.model.specs.Logs.{Change}
 use Rattle.model.specs.Histories.{Lengths, entry_in, log_of, Author, author_in, authors_of, floor_in, floor_of, last_or}
-use Rattle.plain.specs.Items.{item_of, history_of}
-use Rattle.plain.specs.declared.item.Item.{Item}
+use Rattle.model.specs.Items.{item_of, history_of}
+use Rattle.model.specs.declared.item.Item.{Item}
 
 -- the next item goes to the end
 pub log_more : (b : ℕ) (items : List Item) (i : ℕ) (x : Item) (out es : List Change) → i < length items → x ≡ get_or items i x → es ≡ entry_in b (item_of x)

@@ -1,21 +1,20 @@
 -- The first item that is not allowed, and legal histories with one more item.
-use Rattle.std.proofs.Common.{◌≡◌, ℕ, zero, suc, ◌+◌, ◌<◌, ◌≤◌, Bool, true, false, List, [], ◌∷◌, ◌++◌, take, length, get_or, slice_get, Some, refl, arith, sym, subst, inl, inr, append_assoc, append-nil}
+use Rattle.std.proofs.Common.{◌≡◌, ℕ, zero, suc, ◌+◌, ◌<◌, ◌≤◌, Bool, true, false, List, [], ◌∷◌, ◌++◌, take, length, get_or, slice_get, Some, refl, arith, sym, subst, append_assoc, append-nil}
 use Rattle.std.specs.Bool.{Decides}
 use Rattle.std.specs.declared.cmp.Ordering.{Ordering}
 use Rattle.std.specs.declared.cmp.Ordering.TheVariants.{Less, Equal, Greater}
 use Rattle.std.specs.Ordering.{eq_by_cmp, is_eq}
 use Rattle.std.proofs.lemmas.List.{take_more, take_all, take-map, map-append}
 use Rattle.row.specs.Cells.{Cells, row_cmp}
-use Rattle.row.specs.Bags.{Each}
 use Rattle.row.specs.CellOrder.{row_same, row_equivalence}
 use Rattle.plan.specs.Layouts.{Layout}
-use Rattle.model.specs.Histories.{Item as HistoryItem, write, read, fence}
+use Rattle.model.specs.Histories.{Item as HistoryItem}
 use Rattle.model.specs.Legal.{Allows, IsLegalAfter, IsLegal}
 use Rattle.model.proofs.Growth.{legal_more}
-use Rattle.plain.specs.Items.{item_of, history_of}
+use Rattle.model.specs.Items.{item_of, history_of}
 use Rattle.plain.specs.Tells.{Tells}
 use Rattle.plain.specs.Verdicts.{IsIllegal}
-use Rattle.plain.specs.declared.item.Item.{Item}
+use Rattle.model.specs.declared.item.Item.{Item}
 
 pub tells_of : (b : Bool) (P : Type 0) → Decides b P → Tells b P
 tells_of true P d = d.0 refl

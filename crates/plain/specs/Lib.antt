@@ -1,4 +1,3 @@
 pub mod Fitting
-pub mod Items
 pub mod Tells
 pub mod Verdicts

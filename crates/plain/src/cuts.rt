@@ -4,12 +4,12 @@ ghost use Rattle.std.specs.Prelude.{◌≡◌, ◌≤◌, ℕ, slice_index_or, I
 ghost use Rattle.model.specs.Cuts.{IsAtMost, line_of, fronts_of, IsWithin};
 ghost use Rattle.model.specs.Histories.{len_at};
 ghost use Rattle.model.specs.Places.{sources};
-ghost use Rattle.plain.specs.Items.{history_of};
+ghost use Rattle.model.specs.Items.{history_of};
 ghost use Rattle.plain.specs.Tells.{Tells, IsLineWithin};
 
 use crate::front::Line;
-use crate::item::Item;
 use crate::logs::{front_of, log_length};
+use model::item::Item;
 use model::lengths::Lengths;
 use model::places::{source_at, source_count};
 use plan::plan::Plan;

@@ -5,12 +5,12 @@ ghost use Rattle.plan.specs.Layouts.{view_at};
 ghost use Rattle.model.specs.Cuts.{IsAtMost, IsWithin};
 ghost use Rattle.model.specs.Histories.{floor_at, floor_in, floor_of, last_or, view_shard};
 ghost use Rattle.model.specs.Legal.{EachShard};
-ghost use Rattle.plain.specs.Items.{item_of, history_of};
+ghost use Rattle.model.specs.Items.{item_of, history_of};
 ghost use Rattle.plain.specs.Tells.{Tells};
 
 use crate::cuts::{is_at_most, is_within};
-use crate::item::{Item, Read};
 use model::floors::Floors;
+use model::item::{Item, Read};
 use model::lengths::Lengths;
 use plan::plan::Plan;
 use row::value::{Value, shard_of};

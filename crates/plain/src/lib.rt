@@ -7,7 +7,6 @@ pub mod cuts;
 pub mod floors;
 pub mod front;
 mod groups;
-pub mod item;
 pub mod legal;
 pub mod logs;
 pub mod own;

@@ -2,13 +2,12 @@
 ghost use Rattle.std.specs.Prelude.{◌≡◌, ◌++◌, length, map, take, if◌then◌else◌, IfOk, OnOk};
 ghost use Rattle.model.specs.Entries.{change_of};
 ghost use Rattle.model.specs.Histories.{entry_in, log_of, author_in, authors_of};
-ghost use Rattle.plain.specs.Items.{item_of, history_of};
+ghost use Rattle.model.specs.Items.{item_of, history_of};
 
 use crate::front::Front;
-use crate::item::Item;
 use model::entry::Entry;
+use model::item::{Author, Item};
 use std::alloc::{AllocError, Global};
-use std::marker::Model;
 
 /// Adds at the end a copy of the entry that the item adds to the base shard's log, if any.
 fn push_entry(
@@ -82,44 +81,6 @@ pub fn log_length(items: &[Item], base: usize) -> usize
         }
     }
     count
-}
-
-/// Who wrote an entry of a log: the session, and the number of the write.
-#[derive(Drop)]
-pub struct Author {
-    session: usize,
-    number: u64,
-}
-
-impl Model for Author {
-    ghost use Rattle.model.specs.Histories.{Author as AuthorView};
-
-    ghost Value = { AuthorView };
-
-    ghost view = { λ a. record { session = a.session; number = a.number } };
-}
-
-impl Author {
-    /// The author of the write of this number, of this session.
-    pub fn new(session: usize, number: u64) -> Author
-        ensures { result ≡ record { session = session; number = number } }
-    {
-        Author { session, number }
-    }
-
-    /// The session. Constant time.
-    pub fn session(&self) -> usize
-        ensures { result ≡ self.now.session }
-    {
-        self.session
-    }
-
-    /// The number of the write. Constant time.
-    pub fn number(&self) -> u64
-        ensures { result ≡ self.now.number }
-    {
-        self.number
-    }
 }
 
 /// Adds at the end the author that the item adds to the base shard's log, if any.

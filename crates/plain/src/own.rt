@@ -5,13 +5,13 @@ ghost use Rattle.plan.specs.Layouts.{view_at};
 ghost use Rattle.model.specs.Histories.{floor_at, len_at};
 ghost use Rattle.model.specs.Legal.{EachShard, IsPast, IsOwn};
 ghost use Rattle.model.specs.Places.{sources, source_at};
-ghost use Rattle.model.specs.Tables.{places_of};
-ghost use Rattle.plain.specs.Items.{place_of, history_of};
+ghost use Rattle.model.specs.Tables.{place_of, places_of};
+ghost use Rattle.model.specs.Items.{history_of};
 ghost use Rattle.plain.specs.Tells.{Tells, IsSource};
 
-use crate::item::Item;
 use crate::logs::authors_of;
 use model::floors::Floors;
+use model::item::Item;
 use model::lengths::Lengths;
 use model::place::Place;
 use model::places::{source_at, source_count};

@@ -1,8 +1,6 @@
-use Rattle.std.proofs.Common.{◌<◌, length, arith, sym, ◌∙◌, ap, []}
-use Rattle.model.specs.Places.{sources}
-use Rattle.model.specs.Cuts.{line_of}
+use Rattle.std.proofs.Common.{◌<◌, length, arith, ◌∙◌, []}
 use Rattle.model.proofs.Lists.{any_end}
-use Rattle.plain.specs.Items.{history_of}
+use Rattle.model.specs.Items.{history_of}
 use Rattle.plain.proofs.CutLoops.{fronts_more}
 use Rattle.plain.proofs.cuts.fronts_of.Goals as goal
 

@@ -1,7 +1,7 @@
 use Rattle.std.proofs.Common.{◌∙◌, length, arith}
 use Rattle.model.specs.Places.{source_at}
 use Rattle.model.specs.Histories.{log_of}
-use Rattle.plain.specs.Items.{history_of}
+use Rattle.model.specs.Items.{history_of}
 use Rattle.plain.proofs.CutLoops.{every_length}
 use Rattle.plain.proofs.cuts.is_line_within.Goals as goal
 

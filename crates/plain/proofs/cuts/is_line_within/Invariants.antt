@@ -1,7 +1,7 @@
 use Rattle.std.proofs.Common.{ℕ, ◌<◌, ◌≤◌, length, get_or}
 use Rattle.model.specs.Places.{source_at}
 use Rattle.model.specs.Histories.{log_of}
-use Rattle.plain.specs.Items.{history_of}
+use Rattle.model.specs.Items.{history_of}
 use Rattle.plain.proofs.cuts.is_line_within.Given as goal
 
 abbrev pub invariant-loop-source : goal.invariant-loop-source

@@ -1,5 +1,5 @@
 use Rattle.std.proofs.Common.{ℕ, ◌<◌, [], slice_index_or}
-use Rattle.plain.specs.Items.{history_of}
+use Rattle.model.specs.Items.{history_of}
 use Rattle.plain.specs.Tells.{IsLineWithin}
 use Rattle.plain.proofs.cuts.is_within.Given as goal
 

@@ -1,6 +1,6 @@
 use Rattle.std.proofs.Common.{◌∙◌, length, min, get_or, refl, arith, ◌<◌, ◌≤◌}
 use Rattle.model.specs.Places.{sources}
-use Rattle.plain.specs.Items.{history_of}
+use Rattle.model.specs.Items.{history_of}
 use Rattle.plain.proofs.CutLoops.{line_more, line_whole}
 use Rattle.plain.proofs.cuts.line_of.Goals as goal
 

@@ -1,7 +1,7 @@
 use Rattle.std.proofs.Common.{◌≡◌, take}
 use Rattle.model.specs.Places.{sources}
 use Rattle.model.specs.Cuts.{line_of}
-use Rattle.plain.specs.Items.{history_of}
+use Rattle.model.specs.Items.{history_of}
 use Rattle.plain.proofs.cuts.line_of.Given as goal
 
 abbrev pub invariant-loop-source : goal.invariant-loop-source

@@ -1,6 +1,6 @@
 use Rattle.std.proofs.Common.{◌≡◌, take}
 use Rattle.model.specs.Histories.{floor_of}
-use Rattle.plain.specs.Items.{history_of}
+use Rattle.model.specs.Items.{history_of}
 use Rattle.plain.proofs.floors.floor_of.Given as goal
 
 abbrev pub invariant-loop-item : goal.invariant-loop-item

@@ -1,7 +1,7 @@
 use Rattle.std.proofs.Common.{ℕ, ◌<◌}
 use Rattle.model.specs.Cuts.{IsAtMost}
 use Rattle.model.specs.Histories.{floor_at, floor_of}
-use Rattle.plain.specs.Items.{history_of}
+use Rattle.model.specs.Items.{history_of}
 use Rattle.plain.proofs.floors.is_view_above.Given as goal
 
 abbrev pub invariant-loop-shard : goal.invariant-loop-shard

@@ -1,10 +1,10 @@
-use Rattle.std.proofs.Common.{Bool, List, refl, inl, inr, subst, sym}
+use Rattle.std.proofs.Common.{Bool, List, subst, sym}
 use Rattle.row.specs.Bags.{Each}
 use Rattle.model.specs.Legal.{IsOwn, IsPast, EachShard}
 use Rattle.model.specs.Histories.{floor_at}
 use Rattle.model.specs.Tables.{places_of}
 use Rattle.model.specs.declared.place.Place.{Place}
-use Rattle.plain.specs.Items.{history_of}
+use Rattle.model.specs.Items.{history_of}
 use Rattle.plain.specs.Tells.{Tells}
 use Rattle.plain.proofs.legal.allows_fence.Goals as goal
 

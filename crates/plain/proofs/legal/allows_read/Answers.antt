@@ -1,10 +1,10 @@
-use Rattle.std.proofs.Common.{◌≡◌, ◌<◌, length, refl, inl, inr, subst, sym, ◌∙◌, ap, arith, List, true}
+use Rattle.std.proofs.Common.{◌≡◌, subst, sym, ◌∙◌, ap, List, true}
 use Rattle.std.specs.List.{list_all}
 use Rattle.model.specs.Cuts.{IsAtMost}
 use Rattle.model.specs.Histories.{Lengths, floor_of}
 use Rattle.model.specs.Queries.{Line}
 use Rattle.plain.specs.Fitting.{is_line}
-use Rattle.plain.specs.Items.{history_of}
+use Rattle.model.specs.Items.{history_of}
 use Rattle.plain.proofs.LegalFits.{lines_are}
 use Rattle.plain.proofs.legal.allows_read.Goals as goal
 

@@ -1,6 +1,6 @@
 use Rattle.std.proofs.Common.{Bool, subst, take}
 use Rattle.model.specs.Legal.{Allows}
-use Rattle.plain.specs.Items.{item_of, history_of}
+use Rattle.model.specs.Items.{item_of, history_of}
 use Rattle.plain.specs.Tells.{Tells}
 use Rattle.plain.proofs.Verdicts.{legal_push, first_fault}
 use Rattle.plain.proofs.legal.verdict.Goals as goal

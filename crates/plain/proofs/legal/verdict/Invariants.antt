@@ -1,6 +1,6 @@
 use Rattle.std.proofs.Common.{take}
 use Rattle.model.specs.Legal.{IsLegal}
-use Rattle.plain.specs.Items.{history_of}
+use Rattle.model.specs.Items.{history_of}
 use Rattle.plain.proofs.legal.verdict.Given as goal
 
 abbrev pub invariant-loop-at : goal.invariant-loop-at

@@ -1,7 +1,7 @@
 use Rattle.std.proofs.Common.{◌≡◌, map, take}
 use Rattle.model.specs.Entries.{change_of}
 use Rattle.model.specs.Histories.{log_of}
-use Rattle.plain.specs.Items.{history_of}
+use Rattle.model.specs.Items.{history_of}
 use Rattle.plain.proofs.logs.entries_of.Given as goal
 
 abbrev pub invariant-loop-item : goal.invariant-loop-item

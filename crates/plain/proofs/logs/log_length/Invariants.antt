@@ -1,6 +1,6 @@
 use Rattle.std.proofs.Common.{◌≡◌, ◌≤◌, length, take}
 use Rattle.model.specs.Histories.{log_of}
-use Rattle.plain.specs.Items.{history_of}
+use Rattle.model.specs.Items.{history_of}
 use Rattle.plain.proofs.logs.log_length.Given as goal
 
 abbrev pub invariant-loop-item : goal.invariant-loop-item

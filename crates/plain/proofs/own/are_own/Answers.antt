@@ -1,7 +1,8 @@
 use Rattle.std.proofs.Common.{Bool, subst, get_or}
 use Rattle.model.specs.Legal.{IsOwn}
 use Rattle.model.specs.declared.place.Place.{Place}
-use Rattle.plain.specs.Items.{place_of, history_of}
+use Rattle.model.specs.Items.{history_of}
+use Rattle.model.specs.Tables.{place_of}
 use Rattle.plain.specs.Tells.{Tells}
 use Rattle.model.proofs.Lists.{mapped_at}
 use Rattle.plain.proofs.own.are_own.Goals as goal

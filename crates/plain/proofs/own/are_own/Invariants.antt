@@ -2,7 +2,7 @@ use Rattle.std.proofs.Common.{take}
 use Rattle.row.specs.Bags.{Each}
 use Rattle.model.specs.Legal.{IsOwn}
 use Rattle.model.specs.Tables.{places_of}
-use Rattle.plain.specs.Items.{history_of}
+use Rattle.model.specs.Items.{history_of}
 use Rattle.plain.proofs.own.are_own.Given as goal
 
 abbrev pub invariant-loop-place : goal.invariant-loop-place

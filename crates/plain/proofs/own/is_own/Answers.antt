@@ -1,5 +1,6 @@
 use Rattle.std.proofs.Common.{◌∙◌}
-use Rattle.plain.specs.Items.{place_of, history_of}
+use Rattle.model.specs.Items.{history_of}
+use Rattle.model.specs.Tables.{place_of}
 use Rattle.plain.proofs.Owns.{own_tells, not_own}
 use Rattle.plain.proofs.own.is_own.Goals as goal
 

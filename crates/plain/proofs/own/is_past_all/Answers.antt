@@ -1,5 +1,5 @@
 use Rattle.model.specs.Legal.{IsPast}
-use Rattle.plain.specs.Items.{place_of}
+use Rattle.model.specs.Tables.{place_of}
 use Rattle.model.proofs.Lists.{mapped_at, mapped_more}
 use Rattle.plain.proofs.own.is_past_all.Goals as goal
 

@@ -3,10 +3,9 @@ use Rattle.std.specs.Prelude.{List, map}
 use Rattle.row.specs.Cells.{datum_of}
 use Rattle.model.specs.Entries.{change_of}
 use Rattle.model.specs.Tables.{places_of}
-use Rattle.model.specs.declared.place.Place.{Place}
-use Rattle.model.specs.Histories.{Item as HistoryItem, write, read, fence, Place as PlaceView}
-use Rattle.plain.specs.declared.item.Item.{Item}
-use Rattle.plain.specs.declared.item.Item.TheVariants as code
+use Rattle.model.specs.Histories.{Item as HistoryItem, write, read, fence}
+use Rattle.model.specs.declared.item.Item.{Item}
+use Rattle.model.specs.declared.item.Item.TheVariants as code
 
 abbrev pub item_of : Item → HistoryItem
 item_of (code.Write w) = write w.session w.number w.base (change_of w.entry)
@@ -16,7 +15,3 @@ item_of (code.Fence f) = fence f.session (places_of f.own.items) f.floors
 -- the history that a list of items is
 abbrev pub history_of : List Item → List HistoryItem
 history_of items = map item_of items
-
--- the place that a place is
-abbrev pub place_of : Place → PlaceView
-place_of x = record { base = x.base; index = x.index }
