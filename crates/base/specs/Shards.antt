@@ -1,9 +1,10 @@
 -- What a base shard holds, and what an entry asks of it.
-use Rattle.std.specs.Prelude.{◌≡◌, ℕ, Bool, true, false, ◌<◌, List, length, Option, Some, None, Result, Ok, Err, ⊤}
+use Rattle.std.specs.Prelude.{◌≡◌, ℕ, ◌+◌, Bool, true, false, ◌<◌, List, length, Option, Some, None, Result, Ok, Err, ⊤}
 use Rattle.row.specs.Cells.{Datum, Cells, cell_at, row_cmp}
 use Rattle.row.specs.Bags.{sorted}
 use Rattle.row.specs.declared.refused.Refused.{Refused}
-use Rattle.model.specs.Logs.{Change, inserts, deletes, updates, rows_of}
+use Rattle.model.specs.Refusals.{refusal_over}
+use Rattle.model.specs.Logs.{Change, inserts, deletes, updates, changed, rows_of}
 
 -- the key column, how many entries the log may have, the rows in order, how many entries the log has, and the key for which there is room
 pub record Shard : Type 0 where
@@ -41,6 +42,22 @@ abbrev pub room_after : Option Datum → Change → Option Datum
 room_after room (inserts row) = None
 room_after room (deletes k) = room
 room_after room (updates row) = room
+
+-- the rows with the entry
+abbrev pub rows_with : Shard → Change → List Cells
+rows_with s e = changed s.key s.rows e
+
+-- and in order
+abbrev pub rows_after : Shard → Change → List Cells
+rows_after s e = sorted row_cmp (rows_with s e)
+
+-- the shard after the entry
+abbrev pub after_entry : Shard → Change → Shard
+after_entry s e = record s { rows = rows_after s e; length = s.length + 1; room = room_after s.room e }
+
+-- with what the log refuses the entry, if it does
+abbrev pub refusal_of : Shard → Change → Option Refused
+refusal_of s e = refusal_over s.key s.limit s.rows s.length e
 
 -- Ok where there is no refusal
 abbrev pub verdict : Option Refused → Result ⊤ Refused

@@ -2,14 +2,13 @@
 ghost use Rattle.std.specs.Prelude.{◌≡◌, ◌+◌, ◌++◌, ◌∷◌, [], List, filter, ◌<◌, ◌↔◌, true, false, if◌then◌else◌, IsTrue, IsOk, OnOk, IfOk, OnErr, IsOkUnless, Some, None, length};
 ghost use Rattle.std.specs.List.Sorted.{IsPermutation};
 ghost use Rattle.std.specs.HashMap.{get, spare, IsUnique};
-ghost use Rattle.row.specs.Cells.{datum_of, cell_at, has, row_cmp};
-ghost use Rattle.row.specs.Bags.{sorted};
+ghost use Rattle.row.specs.Cells.{datum_of, cell_at, has};
 ghost use Rattle.row.specs.Changes.{Turns};
-ghost use Rattle.model.specs.Logs.{Change, inserts, deletes, updates, changed, is_held, key_of, rows_of};
-ghost use Rattle.model.specs.Refusals.{full, refusal, refusal_over};
+ghost use Rattle.model.specs.Logs.{Change, inserts, deletes, updates, is_held, key_of, rows_of};
+ghost use Rattle.model.specs.Refusals.{full, refusal};
 ghost use Rattle.model.specs.Entries.{change_of};
-ghost use Rattle.base.specs.Shards.{Shard, IsAt, HasKey, HasRoom, adds_row, room_after, verdict};
-ghost use Rattle.base.specs.Records.{plus_of, minus_of, records_of, record_count};
+ghost use Rattle.base.specs.Shards.{Shard, IsAt, HasKey, HasRoom, adds_row, room_after, rows_with, rows_after, after_entry, refusal_of, verdict};
+ghost use Rattle.base.specs.Records.{plus_of, minus_of, records_of, records_at, record_count};
 ghost use Rattle.base.specs.Stored.{equal};
 
 use model::entry::Entry;
@@ -42,7 +41,13 @@ impl Model for BaseShard {
 
     ghost Value = { Shard };
 
-    ghost view = { λ s. record { key = s.key_column; limit = s.limit; rows = sorted row_cmp (values s.rows); length = s.entry_count; room = option_map datum_of s.ready } };
+    ghost view = { λ s. record {
+      key = s.key_column;
+      limit = s.limit;
+      rows = sorted row_cmp (values s.rows);
+      length = s.entry_count;
+      room = option_map datum_of s.ready;
+    } };
 
     ghost invariant = { λ s. IsStored s.key_column s.rows s.ready };
 }
@@ -51,7 +56,13 @@ impl BaseShard {
     /// A shard with no rows, for a table with this key column and a log of at most `limit`
     /// entries. It takes no memory.
     pub fn new(alloc: Global, key_column: usize, limit: u64) -> BaseShard
-        ensures empty { result ≡ record { key = key_column; limit = limit; rows = []; length = 0; room = None } }
+        ensures empty { result ≡ record {
+          key = key_column;
+          limit = limit;
+          rows = [];
+          length = 0;
+          room = None;
+        } }
         ensures front { IsAt result [] }
     {
         BaseShard {
@@ -82,8 +93,9 @@ impl BaseShard {
     /// has its limit of entries. It changes nothing, takes no memory, and looks one key up.
     pub fn check(&self, entry: &Entry) -> Result<(), Refused>
         requires { HasKey self.now.key (change_of entry.now) }
-        ensures rows { result ≡ verdict (refusal_over self.now.key self.now.limit self.now.rows self.now.length (change_of entry.now)) }
-        ensures front { (front : List Change) → IsAt self.now front → result ≡ verdict (refusal self.now.key self.now.limit front (change_of entry.now)) }
+        ensures rows { result ≡ verdict (refusal_of self.now (change_of entry.now)) }
+        ensures front { (front : List Change) → IsAt self.now front → result
+            ≡ verdict (refusal self.now.key self.now.limit front (change_of entry.now)) }
     {
         match entry {
             Entry::Insert(row) => {
@@ -100,7 +112,8 @@ impl BaseShard {
 
     /// `Absent` for a key that is not held, then `LogFull`.
     fn check_held(&self, key: &Value) -> Result<(), Refused>
-        ensures { result ≡ verdict (if is_held self.now.key self.now.rows (datum_of key.now) then full self.now.limit self.now.length else Some Refused.Absent) }
+        ensures { result ≡ verdict (if is_held self.now.key self.now.rows (datum_of key.now) then
+            full self.now.limit self.now.length else Some Refused.Absent) }
     {
         if self.holds(key) {
             self.check_limit()
@@ -133,12 +146,16 @@ impl BaseShard {
     /// of these rows, at most two.
     pub fn changes(&self, alloc: Global, entry: &Entry) -> Result<Vec<Record>, AllocError>
         requires key { HasKey self.now.key (change_of entry.now) }
-        requires lawful { refusal_over self.now.key self.now.limit self.now.rows self.now.length (change_of entry.now) ≡ None }
-        ensures records { IfOk result (λ v. v.items ≡ records_of self.now.key self.now.rows (change_of entry.now)) }
+        requires lawful { refusal_of self.now (change_of entry.now) ≡ None }
+        ensures records { IfOk result (λ v. v.items ≡ records_at self.now (change_of entry.now)) }
         ensures count { IfOk result (λ v. length v.items ≡ record_count (change_of entry.now)) }
-        ensures turns { IfOk result (λ v. Turns self.now.rows v.items (changed self.now.key self.now.rows (change_of entry.now))) }
-        ensures records_at { IfOk result (λ v. (front : List Change) → IsAt self.now front → v.items ≡ records_of self.now.key (rows_of self.now.key front) (change_of entry.now)) }
-        ensures turns_at { IfOk result (λ v. (front : List Change) → IsAt self.now front → Turns (rows_of self.now.key front) v.items (rows_of self.now.key (front ++ change_of entry.now ∷ []))) }
+        ensures turns { IfOk result (λ v. Turns self.now.rows v.items
+            (rows_with self.now (change_of entry.now))) }
+        ensures records_at { IfOk result (λ v. (front : List Change) → IsAt self.now front → v.items
+            ≡ records_of self.now.key (rows_of self.now.key front) (change_of entry.now)) }
+        ensures turns_at { IfOk result (λ v. (front : List Change) → IsAt self.now front
+            → Turns (rows_of self.now.key front) v.items
+            (rows_of self.now.key (front ++ change_of entry.now ∷ []))) }
     {
         self.records(alloc, entry)
     }
@@ -146,8 +163,8 @@ impl BaseShard {
     /// The records of a lawful entry.
     fn records(&self, alloc: Global, entry: &Entry) -> Result<Vec<Record>, AllocError>
         requires key { HasKey self.now.key (change_of entry.now) }
-        requires lawful { refusal_over self.now.key self.now.limit self.now.rows self.now.length (change_of entry.now) ≡ None }
-        ensures records { IfOk result (λ v. v.items ≡ records_of self.now.key self.now.rows (change_of entry.now)) }
+        requires lawful { refusal_of self.now (change_of entry.now) ≡ None }
+        ensures records { IfOk result (λ v. v.items ≡ records_at self.now (change_of entry.now)) }
         ensures count { IfOk result (λ v. length v.items ≡ record_count (change_of entry.now)) }
     {
         let mut records = Vec::new(alloc);
@@ -166,7 +183,8 @@ impl BaseShard {
     fn minus(&self, alloc: Global, key: &Value) -> Result<Record, AllocError>
         requires held { is_held self.now.key self.now.rows (datum_of key.now) ≡ true }
         ensures record { IfOk result (λ r. r ≡ minus_of r.row) }
-        ensures only { IfOk result (λ r. filter (has self.now.key (datum_of key.now)) self.now.rows ≡ r.row ∷ []) }
+        ensures only { IfOk result (λ r. filter (has self.now.key (datum_of key.now)) self.now.rows
+            ≡ r.row ∷ []) }
     {
         let row = self.rows.get(key).unwrap();
         Ok(Record {
@@ -185,10 +203,7 @@ impl BaseShard {
         ensures unchanged { adds_row (change_of entry.now) ≡ false → self.new ≡ self.old }
         ensures room { OnOk result (HasRoom self.new (change_of entry.now)) }
         ensures err { OnErr result (self.new ≡ self.old) }
-        ensures rows { self.new.rows ≡ self.old.rows }
-        ensures length { self.new.length ≡ self.old.length }
-        ensures key { self.new.key ≡ self.old.key }
-        ensures limit { self.new.limit ≡ self.old.limit }
+        ensures rest { self.new ≡ record self.old { room = self.new.room } }
         ensures front { (front : List Change) → IsAt self.old front → IsAt self.new front }
     {
         match entry {
@@ -214,14 +229,11 @@ impl BaseShard {
     /// the same key. It takes no memory, cannot fail, and looks one key up.
     pub fn commit(&mut self, entry: Entry)
         requires key { HasKey self.old.key (change_of entry) }
-        requires lawful { refusal_over self.old.key self.old.limit self.old.rows self.old.length (change_of entry) ≡ None }
+        requires lawful { refusal_of self.old (change_of entry) ≡ None }
         requires room { HasRoom self.old (change_of entry) }
-        ensures rows { self.new.rows ≡ sorted row_cmp (changed self.old.key self.old.rows (change_of entry)) }
-        ensures length { self.new.length ≡ self.old.length + 1 }
-        ensures key { self.new.key ≡ self.old.key }
-        ensures limit { self.new.limit ≡ self.old.limit }
-        ensures room { self.new.room ≡ room_after self.old.room (change_of entry) }
-        ensures front { (front : List Change) → IsAt self.old front → IsAt self.new (front ++ change_of entry ∷ []) }
+        ensures rest { self.new ≡ after_entry self.old (change_of entry) }
+        ensures front { (front : List Change) → IsAt self.old front
+            → IsAt self.new (front ++ change_of entry ∷ []) }
     {
         self.apply(entry);
         self.count();
@@ -230,9 +242,12 @@ impl BaseShard {
     /// Changes the rows by the entry.
     fn apply(&mut self, entry: Entry)
         requires key { HasKey self.old.key (change_of entry) }
-        requires lawful { refusal_over self.old.key self.old.limit self.old.rows self.old.length (change_of entry) ≡ None }
+        requires lawful { refusal_of self.old (change_of entry) ≡ None }
         requires room { HasRoom self.old (change_of entry) }
-        ensures { self.new ≡ record self.old { rows = sorted row_cmp (changed self.old.key self.old.rows (change_of entry)); room = room_after self.old.room (change_of entry) } }
+        ensures { self.new ≡ record self.old {
+          rows = rows_after self.old (change_of entry);
+          room = room_after self.old.room (change_of entry);
+        } }
     {
         match entry {
             Entry::Insert(row) => self.insert(row),
@@ -255,7 +270,7 @@ impl BaseShard {
         requires key { self.old.key < length row }
         requires room { self.old.room ≡ Some (cell_at row self.old.key) }
         requires absent { is_held self.old.key self.old.rows (cell_at row self.old.key) ≡ false }
-        ensures { self.new ≡ record self.old { rows = sorted row_cmp (changed self.old.key self.old.rows (inserts row)); room = None } }
+        ensures { self.new ≡ record self.old { rows = rows_after self.old (inserts row); room = None } }
     {
         if let Some(key) = self.ready.take() {
             put(&mut self.rows, key, row);
@@ -264,7 +279,7 @@ impl BaseShard {
 
     /// Takes the row of the key away.
     fn remove(&mut self, key: &Value)
-        ensures { self.new ≡ record self.old { rows = sorted row_cmp (changed self.old.key self.old.rows (deletes (datum_of key.now))) } }
+        ensures { self.new ≡ record self.old { rows = rows_after self.old (deletes (datum_of key.now)) } }
     {
         let _ = self.rows.remove(key);
     }
@@ -273,7 +288,7 @@ impl BaseShard {
     fn replace(&mut self, row: Row)
         requires key { self.old.key < length row }
         requires held { is_held self.old.key self.old.rows (cell_at row self.old.key) ≡ true }
-        ensures { self.new ≡ record self.old { rows = sorted row_cmp (changed self.old.key self.old.rows (updates row)) } }
+        ensures { self.new ≡ record self.old { rows = rows_after self.old (updates row) } }
     {
         let place = self.rows.get_mut(row.cell(self.key_column)).unwrap();
         *place = row;

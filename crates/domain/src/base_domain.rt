@@ -295,10 +295,7 @@ fn ready_for(alloc: Global, shard: &mut BaseShard, entry: &Entry) -> Result<Read
     ensures records { IfOk result (λ r. (front : List Change) → IsAt shard.old front → r.changes.items ≡ records_of shard.old.key (rows_of shard.old.key front) (change_of entry.now)) }
     ensures turns { IfOk result (λ r. (front : List Change) → IsAt shard.old front → Turns (rows_of shard.old.key front) r.changes.items (rows_of shard.old.key (front ++ change_of entry.now ∷ []))) }
     ensures room { OnOk result (HasRoom shard.new (change_of entry.now)) }
-    ensures rows { shard.new.rows ≡ shard.old.rows }
-    ensures length { shard.new.length ≡ shard.old.length }
-    ensures key { shard.new.key ≡ shard.old.key }
-    ensures limit { shard.new.limit ≡ shard.old.limit }
+    ensures rest { shard.new ≡ record shard.old { room = shard.new.room } }
     ensures front { (front : List Change) → IsAt shard.old front → IsAt shard.new front }
 {
     let changes = shard.changes(alloc, entry)?;

@@ -1,10 +1,10 @@
-use Rattle.std.proofs.Common.{◌≡◌, ◌<◌, ◌++◌, ◌∷◌, [], sym, ◌∙◌, subst}
+use Rattle.std.proofs.Common.{◌≡◌, ◌<◌, ◌++◌, ◌∷◌, [], ap, sym, ◌∙◌, subst}
 use Rattle.row.specs.Bags.{Each}
 use Rattle.model.specs.Entries.{change_of}
 use Rattle.model.specs.Histories.{Author}
 use Rattle.model.specs.Logs.{Change}
 use Rattle.book.specs.Fronts.{FrontView, entries, authors}
-use Rattle.base.specs.Shards.{IsAt}
+use Rattle.base.specs.Shards.{Shard, IsAt}
 use Rattle.domain.proofs.Calls.{absent, rows_refusal, same_refusal, domain_next}
 use Rattle.domain.proofs.Packets.{packet_true, sends}
 use Rattle.domain.proofs.base_domain.BaseDomain.accept.Goals as goal
@@ -30,7 +30,7 @@ pub commit-requires-clause-lawful : goal.commit-requires-clause-lawful
 commit-requires-clause-lawful g c =
     let e = c.in-Ok.ensures in
     let free = rw (← c.self.view_is, ← c.write.view_is) at c.requires.free in
-    same_refusal c.ready_for.new.shard c.self.inside.shard (change_of c.in-Ok.ready.kept) (change_of c.write.inside.entry) e.key e.limit e.rows e.length e.kept
+    same_refusal c.ready_for.new.shard c.self.inside.shard (change_of c.in-Ok.ready.kept) (change_of c.write.inside.entry) (ap (λ (s : Shard). s.key) e.rest) (ap (λ (s : Shard). s.limit) e.rest) (ap (λ (s : Shard). s.rows) e.rest) (ap (λ (s : Shard). s.length) e.rest) e.kept
     ∙ (rows_refusal g.J.Naming.plan c.self.inside.shard c.self.inside.front c.self.inside.next.items (change_of c.write.inside.entry) c.self.invariant ∙ free)
 
 pub invariant_of-self-in-Ok-write : goal.invariant_of-self-in-Ok-write
@@ -41,7 +41,7 @@ invariant_of-self-in-Ok-write g c =
     let f = c.self.inside.front in
     let appended = rw c.again-front.ensures at c.in-Ok-write.ensures.accepted.0 in
     let at : IsAt c.commit.new.self (entries f ++ change_of c.write.inside.entry ∷ []) = subst (λ (x : Change). IsAt c.commit.new.self (entries f ++ x ∷ [])) e.kept (c.commit.ensures.front (entries f) (e.front (entries f) c.self.invariant.at)) in
-    domain_next g.J.Naming.plan c.self.inside.shard c.commit.new.self f c.write-2.new.self c.self.inside.next.items c.write.inside.session c.write.inside.number (change_of c.write.inside.entry) c.self.invariant appended at (c.commit.ensures.key ∙ e.key) (c.commit.ensures.limit ∙ e.limit) place rises
+    domain_next g.J.Naming.plan c.self.inside.shard c.commit.new.self f c.write-2.new.self c.self.inside.next.items c.write.inside.session c.write.inside.number (change_of c.write.inside.entry) c.self.invariant appended at (ap (λ (s : Shard). s.key) c.commit.ensures.rest ∙ ap (λ (s : Shard). s.key) e.rest) (ap (λ (s : Shard). s.limit) c.commit.ensures.rest ∙ ap (λ (s : Shard). s.limit) e.rest) place rises
 
 pub returns-in-Ok-write-clause-sent : goal.returns-in-Ok-write-clause-sent
 returns-in-Ok-write-clause-sent g c =
