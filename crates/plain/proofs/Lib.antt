@@ -1,4 +1,3 @@
-pub mod Cells
 pub mod Loops
 pub mod Fits
 pub mod Sums

@@ -16,7 +16,7 @@ use crate::floors::{are_above, are_within, floor_of, view_shard};
 use crate::logs::{authors_of, log_of};
 use crate::own::{are_own, are_past};
 use crate::query::answer;
-use crate::rows::{cell_or, is_lawful};
+use crate::rows::is_lawful;
 use model::entry::Entry;
 use model::item::{Author, Fence, Item, Read, Write};
 use model::lengths::Lengths;
@@ -37,9 +37,9 @@ fn shard_of_entry(table: &Table, entry: &Entry) -> usize
 {
     let zero = Value::Int(0);
     match entry {
-        Entry::Insert(row) => shard_of(cell_or(row, table.key(), &zero), table.shards()),
+        Entry::Insert(row) => shard_of(row.cell_or(table.key(), &zero), table.shards()),
         Entry::Delete(key) => shard_of(key, table.shards()),
-        Entry::Update(row) => shard_of(cell_or(row, table.key(), &zero), table.shards()),
+        Entry::Update(row) => shard_of(row.cell_or(table.key(), &zero), table.shards()),
     }
 }
 

@@ -57,7 +57,7 @@ fn replaced(alloc: Global, key: usize, rows: Vec<Row>, row: &Row) -> Result<Vec<
     ensures { IfOk result (λ after. after.items ≡ map (λ x. cond (has key (cell_at row.now key) x) row.now x) rows.items) }
 {
     let zero = Value::Int(0);
-    let value = cell_or(row, key, &zero);
+    let value = row.cell_or(key, &zero);
     let mut after = Vec::new(alloc);
     for old in &rows {
         after.push(updated(old, key, value, row).copied(alloc)?)?;
@@ -70,17 +70,6 @@ fn updated<'a>(old: &'a Row, key: usize, value: &Value, new: &'a Row) -> &'a Row
     ensures { result.now ≡ cond (has key (datum_of value.now) old.now) new.now old.now }
 {
     if old.has(key, value) { new } else { old }
-}
-
-/// The row's value in the column, or zero past its end. Constant time.
-pub fn cell_or<'a>(row: &'a Row, column: usize, zero: &'a Value) -> &'a Value
-    requires { datum_of zero.now ≡ int (pos 0) }
-    ensures { datum_of result.now ≡ cell_at row.now column }
-{
-    match row.get(column) {
-        Some(value) => value,
-        None => zero,
-    }
 }
 
 /// Whether some row has the key.
@@ -104,9 +93,9 @@ pub fn is_lawful(
     let rows = rows_of(alloc, key, front)?;
     let zero = Value::Int(0);
     Ok(match entry {
-        Entry::Insert(row) => !is_held(&rows, key, cell_or(row, key, &zero)),
+        Entry::Insert(row) => !is_held(&rows, key, row.cell_or(key, &zero)),
         Entry::Delete(value) => is_held(&rows, key, value),
-        Entry::Update(row) => is_held(&rows, key, cell_or(row, key, &zero)),
+        Entry::Update(row) => is_held(&rows, key, row.cell_or(key, &zero)),
     })
 }
 

@@ -1,4 +1,5 @@
 pub mod Cells
+pub mod Numbers
 pub mod Bags
 pub mod Printed
 pub mod Refusals

@@ -4,7 +4,7 @@ use Rattle.std.specs.Int.Signed.{mag}
 use Rattle.std.specs.Str.Parse.{ParsesSigned}
 use Rattle.std.proofs.lemmas.Fmt.{parse-signed_decimal, signed_decimal_injective}
 use Rattle.std.proofs.lemmas.Int.{ints}
-use Rattle.plan.specs.Kinds.{is_small}
+use Rattle.row.specs.Numbers.{is_small}
 use Rattle.script.specs.Values.{Prints, IsRead}
 use Rattle.row.specs.Cells.{Datum, int, text}
 use Rattle.plan.specs.declared.kinds.Kind.{Kind}

@@ -2,7 +2,7 @@
 use Rattle.std.specs.Prelude.{◌≡◌, ℕ, true, ℤ, List}
 use Rattle.std.specs.Fmt.{signed_decimal}
 use Rattle.row.specs.Cells.{Datum, int, text}
-use Rattle.plan.specs.Kinds.{is_small}
+use Rattle.row.specs.Numbers.{is_small}
 use Rattle.plan.specs.declared.kinds.Kind.{Kind}
 use Rattle.plan.specs.declared.kinds.Kind.TheVariants as kind
 

@@ -1,0 +1,39 @@
+//! Sums of numbers in rows.
+ghost use Rattle.std.specs.Prelude.{◌≡◌, true};
+ghost use Rattle.std.specs.List.{list_all};
+ghost use Rattle.row.specs.Cells.{datum_of, cell_at};
+ghost use Rattle.row.specs.Numbers.{number_of, is_small_at, sum_of};
+
+use crate::row::Row;
+use crate::value::Value;
+
+/// The number that the value is; 0 for a text.
+fn number_of(value: &Value) -> i128
+    ensures { result ≡ number_of (datum_of value.now) }
+{
+    match value {
+        Value::Int(number) => *number,
+        Value::Text(_) => 0,
+    }
+}
+
+/// The number that the row has in the column; 0 for a text, and past the row's end. Takes no memory.
+pub fn number_at(row: &Row, column: usize) -> i128
+    ensures { result ≡ number_of (cell_at row.now column) }
+{
+    let zero = Value::Int(0);
+    number_of(row.cell_or(column, &zero))
+}
+
+/// The exact sum of a column: numbers of 64 bits in as many rows as a slice can have stay within 128
+/// bits. Takes no memory. Cost: a look at each row.
+pub fn sum(column: usize, rows: &[Row]) -> i128
+    requires { list_all (is_small_at column) rows.now ≡ true }
+    ensures { result ≡ sum_of column rows.now }
+{
+    let mut sum: i128 = 0;
+    for row in rows {
+        sum += number_at(row, column);
+    }
+    sum
+}
