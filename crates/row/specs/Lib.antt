@@ -5,3 +5,5 @@ pub mod Printed
 pub mod Refusals
 pub mod CellOrder
 pub mod Changes
+pub mod BagChanges
+pub mod Groups

@@ -4,7 +4,10 @@ ghost use Rattle.std.specs.Ordering.{is_gt};
 ghost use Rattle.std.specs.List.Sorted.{IsPartitionPoint};
 ghost use Rattle.row.specs.Cells.{row_cmp};
 ghost use Rattle.row.specs.Bags.{times, inserted, removed, IsAscending};
+ghost use Rattle.row.specs.BagChanges.{LossesFit, plus_applied, minus_applied, taken_back, with_gains, with_losses, with_records};
+ghost use Rattle.row.specs.Changes.{IsCovered};
 
+use crate::record::{Record, Sign};
 use crate::row::Row;
 use std::alloc::{AllocError, Global};
 use std::marker::Model;
@@ -87,6 +90,81 @@ impl Bag {
     {
         let at = place(self.rows.as_slice(), row);
         self.rows.remove(at);
+    }
+
+    /// Applies the records as one change: adds all rows that they add, and then takes away those
+    /// that they take away, so that their order does not matter. Errors: memory only; then the bag
+    /// is as it was. Cost: for each record, that of `add` with a copy of the row, or of `subtract`.
+    pub fn apply(&mut self, alloc: Global, records: &[Record]) -> Result<(), AllocError>
+        requires covered { IsCovered self.old records.now }
+        ensures applied { OnOk result (self.new ≡ with_records self.old records.now) }
+        ensures err { OnErr result (self.new ≡ self.old) }
+    {
+        self.gain_all(alloc, records)?;
+        self.lose_all(records);
+        Ok(())
+    }
+
+    // Adds the rows that the records add. Where memory is refused, those that were added go again.
+    fn gain_all(&mut self, alloc: Global, records: &[Record]) -> Result<(), AllocError>
+        ensures gained { OnOk result (self.new ≡ with_gains self.old records.now) }
+        ensures err { OnErr result (self.new ≡ self.old) }
+    {
+        let mut done = 0;
+        while done < records.len() {
+            if self.gain(alloc, &records[done]).is_err() {
+                while done > 0 {
+                    done -= 1;
+                    self.take_back(&records[done]);
+                }
+                return Err(AllocError);
+            }
+            done += 1;
+        }
+        Ok(())
+    }
+
+    // Adds the record's row, where the record adds it.
+    fn gain(&mut self, alloc: Global, signed: &Record) -> Result<(), AllocError>
+        ensures gained { OnOk result (self.new ≡ plus_applied signed.now.sign signed.now.row self.old) }
+        ensures err { OnErr result (self.new ≡ self.old) }
+    {
+        match signed.sign {
+            Sign::Plus => self.add(signed.row.copied(alloc)?),
+            Sign::Minus => Ok(()),
+        }
+    }
+
+    // Takes the record's row away again, where the record had added it.
+    fn take_back(&mut self, signed: &Record)
+        requires { signed.now.sign ≡ Sign.Plus → 0 < times row_cmp signed.now.row self.old }
+        ensures { self.new ≡ taken_back signed.now.sign signed.now.row self.old }
+    {
+        match signed.sign {
+            Sign::Plus => self.subtract(&signed.row),
+            Sign::Minus => {}
+        }
+    }
+
+    // Takes away the rows that the records take away, which are there.
+    fn lose_all(&mut self, records: &[Record])
+        requires { LossesFit self.old records.now }
+        ensures { self.new ≡ with_losses self.old records.now }
+    {
+        for signed in records {
+            self.lose(signed);
+        }
+    }
+
+    // Takes away the record's row, where the record takes it away.
+    fn lose(&mut self, signed: &Record)
+        requires { signed.now.sign ≡ Sign.Minus → 0 < times row_cmp signed.now.row self.old }
+        ensures { self.new ≡ minus_applied signed.now.sign signed.now.row self.old }
+    {
+        match signed.sign {
+            Sign::Plus => {}
+            Sign::Minus => self.subtract(&signed.row),
+        }
     }
 }
 

@@ -1,0 +1,196 @@
+-- The rows that pass a test, after records.
+use Rattle.std.proofs.Common.{◌≡◌, ℕ, ◌+◌, ◌<◌, ◌≤◌, nat_lt, Bool, true, false, cond, List, [], ◌∷◌, length, filter, refl, ap, ◌∙◌, arith, Ordering}
+use Rattle.std.specs.declared.cmp.Ordering.TheVariants.{Less, Equal, Greater}
+use Rattle.std.specs.Ordering.{is_eq, is_gt}
+use Rattle.row.specs.Cells.{Datum, Cells, row_cmp, has, cell_at}
+use Rattle.row.specs.CellOrder.{row_total, row_same}
+use Rattle.row.specs.Bags.{Each, one, times, inserted, removed, IsAscending}
+use Rattle.row.specs.BagChanges.{plus_applied, minus_applied, with_gains, with_losses, with_records}
+use Rattle.row.specs.Changes.{gains, losses, IsCovered}
+use Rattle.row.specs.Groups.{wide}
+use Rattle.row.specs.declared.record.Record.{Record}
+use Rattle.row.specs.declared.record.Sign.{Sign}
+use Rattle.row.specs.declared.record.Sign.TheVariants.{Plus, Minus}
+use Rattle.row.proofs.BagLemmas.{times-inserted, IsAscending-inserted, one_list, times-filter_kept, times-filter_dropped}
+use Rattle.std.proofs.lemmas.Bool.Decides.{nat_tests}
+use Rattle.row.proofs.BagChanges.{IsAscending-plus}
+use Rattle.row.proofs.Keys.{has_wide}
+use Rattle.row.proofs.RecordLaws.{apart_rows, true_false, false_true, gains-kept_true, losses-kept_true, losses-kept_false}
+use Rattle.row.proofs.Shards.{has_own}
+
+same_both : (b : Bool) (rows : List Cells) → rows ≡ cond b rows rows
+same_both true rows = refl
+same_both false rows = refl
+
+pub Each-filtered : (p : Cells → Bool) (rows : List Cells) → Each (λ r. p r ≡ true) (filter p rows)
+Each-filtered p [] = tt
+Each-filtered p (r ∷ rows) = step (p r) refl (Each-filtered p rows)
+  where
+    step : (b : Bool) → p r ≡ b → Each (λ r. p r ≡ true) (filter p rows) → Each (λ r. p r ≡ true) (cond b (r ∷ filter p rows) (filter p rows))
+    step true e k = (e, k)
+    step false e k = k
+
+Each-filter : (P : Cells → Type 0) (p : Cells → Bool) (rows : List Cells) → Each P rows → Each P (filter p rows)
+Each-filter P p [] h = tt
+Each-filter P p (r ∷ rows) h = step (p r) (Each-filter P p rows h.1)
+  where
+    step : (b : Bool) → Each P (filter p rows) → Each P (cond b (r ∷ filter p rows) (filter p rows))
+    step true k = (h.0, k)
+    step false k = k
+
+pub IsAscending-filter : (p : Cells → Bool) (rows : List Cells) → IsAscending row_cmp rows → IsAscending row_cmp (filter p rows)
+IsAscending-filter p [] h = tt
+IsAscending-filter p (r ∷ rows) h = step (p r) (IsAscending-filter p rows h.1)
+  where
+    step : (b : Bool) → IsAscending row_cmp (filter p rows) → IsAscending row_cmp (cond b (r ∷ filter p rows) (filter p rows))
+    step true k = (Each-filter (λ z. is_gt (row_cmp r z) ≡ false) p rows h.0, k)
+    step false k = k
+
+-- a row that is the other passes as it does
+pub found_same : (p : Cells → Bool) (z row : Cells) → 0 < one row_cmp z row → p row ≡ true → p z ≡ true
+found_same p z row there own = step (row_cmp z row) refl there
+  where
+    step : (o : Ordering) → row_cmp z row ≡ o → 0 < cond (is_eq o) 1 0 → p z ≡ true
+    step Less e h = absurd (omega arith)
+    step Equal e h = ap p (row_same z row e) ∙ own
+    step Greater e h = absurd (omega arith)
+
+module _ (p : Cells → Bool) where
+  -- one row more, in rows in order
+  pub filter-inserted : (row : Cells) (rows : List Cells) → IsAscending row_cmp rows → filter p (inserted row_cmp row rows) ≡ cond (p row) (inserted row_cmp row (filter p rows)) (filter p rows)
+  filter-inserted row rows up = step (p row) refl
+    where
+      up_more : IsAscending row_cmp (filter p (inserted row_cmp row rows))
+      up_more = IsAscending-filter p (inserted row_cmp row rows) (IsAscending-inserted row_cmp row_total row rows up)
+
+      up_kept : IsAscending row_cmp (filter p rows)
+      up_kept = IsAscending-filter p rows up
+
+      with_it : p row ≡ true → (z : Cells) (c : Bool) → p z ≡ c → times row_cmp z (filter p (inserted row_cmp row rows)) ≡ times row_cmp z (inserted row_cmp row (filter p rows))
+      with_it e z true f =
+          omega (arith, times-filter_kept row_cmp row_total row_same p z (inserted row_cmp row rows) f, times-inserted row_cmp z row rows, times-inserted row_cmp z row (filter p rows), times-filter_kept row_cmp row_total row_same p z rows f)
+      with_it e z false f =
+          omega (
+            arith,
+            times-filter_dropped row_cmp row_total row_same p z (inserted row_cmp row rows) f,
+            times-inserted row_cmp z row (filter p rows),
+            times-filter_dropped row_cmp row_total row_same p z rows f,
+            apart_rows p z row false true f e false_true,
+          )
+
+      without_it : p row ≡ false → (z : Cells) (c : Bool) → p z ≡ c → times row_cmp z (filter p (inserted row_cmp row rows)) ≡ times row_cmp z (filter p rows)
+      without_it e z true f =
+          omega (
+            arith,
+            times-filter_kept row_cmp row_total row_same p z (inserted row_cmp row rows) f,
+            times-inserted row_cmp z row rows,
+            times-filter_kept row_cmp row_total row_same p z rows f,
+            apart_rows p z row true false f e true_false,
+          )
+      without_it e z false f = omega (arith, times-filter_dropped row_cmp row_total row_same p z (inserted row_cmp row rows) f, times-filter_dropped row_cmp row_total row_same p z rows f)
+
+      step : (b : Bool) → p row ≡ b → filter p (inserted row_cmp row rows) ≡ cond b (inserted row_cmp row (filter p rows)) (filter p rows)
+      step true e = one_list row_cmp row_total row_same _ _ up_more (IsAscending-inserted row_cmp row_total row (filter p rows) up_kept) (λ z. with_it e z (p z) refl)
+      step false e = one_list row_cmp row_total row_same _ _ up_more up_kept (λ z. without_it e z (p z) refl)
+
+  -- one row less
+  pub filter-removed : (row : Cells) (rows : List Cells) → filter p (removed row_cmp row rows) ≡ cond (p row) (removed row_cmp row (filter p rows)) (filter p rows)
+  filter-removed row [] = none (p row)
+    where
+      none : (b : Bool) → filter p [] ≡ cond b [] []
+      none true = refl
+      none false = refl
+  filter-removed row (y ∷ ys) = step (row_cmp row y) refl (p row) refl (p y) refl (filter-removed row ys)
+    where
+      step : (o : Ordering) → row_cmp row y ≡ o → (b : Bool) → p row ≡ b → (c : Bool) → p y ≡ c → filter p (removed row_cmp row ys) ≡ cond b (removed row_cmp row (filter p ys)) (filter p ys)
+          → filter p (cond (is_eq o) ys (y ∷ removed row_cmp row ys)) ≡ cond b (removed row_cmp row (cond c (y ∷ filter p ys) (filter p ys))) (cond c (y ∷ filter p ys) (filter p ys))
+      step Less e true eb true ec h = rw (ec, e) (ap (λ t. y ∷ t) h)
+      step Less e true eb false ec h = rw ec h
+      step Less e false eb true ec h = rw ec (ap (λ t. y ∷ t) h)
+      step Less e false eb false ec h = rw ec h
+      step Equal e true eb true ec h = rw e refl
+      step Equal e true eb false ec h = let q = ap p (row_same row y e) in cc
+      step Equal e false eb true ec h = let q = ap p (row_same row y e) in cc
+      step Equal e false eb false ec h = refl
+      step Greater e true eb true ec h = rw (ec, e) (ap (λ t. y ∷ t) h)
+      step Greater e true eb false ec h = rw ec h
+      step Greater e false eb true ec h = rw ec (ap (λ t. y ∷ t) h)
+      step Greater e false eb false ec h = rw ec h
+
+  filter-plus : (s : Sign) (row : Cells) (rows : List Cells) → IsAscending row_cmp rows → filter p (plus_applied s row rows) ≡ cond (p row) (plus_applied s row (filter p rows)) (filter p rows)
+  filter-plus Plus row rows up = filter-inserted row rows up
+  filter-plus Minus row rows up = same_both (p row) (filter p rows)
+
+  filter-minus : (s : Sign) (row : Cells) (rows : List Cells) → filter p (minus_applied s row rows) ≡ cond (p row) (minus_applied s row (filter p rows)) (filter p rows)
+  filter-minus Plus row rows = same_both (p row) (filter p rows)
+  filter-minus Minus row rows = filter-removed row rows
+
+  filter-with_gains : (rows : List Cells) (rs : List Record) → IsAscending row_cmp rows → filter p (with_gains rows rs) ≡ with_gains (filter p rows) (filter (λ (r : Record). p r.row) rs)
+  filter-with_gains rows [] up = refl
+  filter-with_gains rows (r ∷ rs) up =
+      filter-with_gains (plus_applied r.sign r.row rows) rs (IsAscending-plus r.sign r.row rows up)
+      ∙ (ap (λ l. with_gains l (filter (λ (r : Record). p r.row) rs)) (filter-plus r.sign r.row rows up) ∙ step (p r.row))
+    where
+      step : (b : Bool) → with_gains (cond b (plus_applied r.sign r.row (filter p rows)) (filter p rows)) (filter (λ (r : Record). p r.row) rs)
+          ≡ with_gains (filter p rows) (cond b (r ∷ filter (λ (r : Record). p r.row) rs) (filter (λ (r : Record). p r.row) rs))
+      step true = refl
+      step false = refl
+
+  filter-with_losses : (rows : List Cells) (rs : List Record) → filter p (with_losses rows rs) ≡ with_losses (filter p rows) (filter (λ (r : Record). p r.row) rs)
+  filter-with_losses rows [] = refl
+  filter-with_losses rows (r ∷ rs) =
+      filter-with_losses (minus_applied r.sign r.row rows) rs
+      ∙ (ap (λ l. with_losses l (filter (λ (r : Record). p r.row) rs)) (filter-minus r.sign r.row rows) ∙ step (p r.row))
+    where
+      step : (b : Bool) → with_losses (cond b (minus_applied r.sign r.row (filter p rows)) (filter p rows)) (filter (λ (r : Record). p r.row) rs)
+          ≡ with_losses (filter p rows) (cond b (r ∷ filter (λ (r : Record). p r.row) rs) (filter (λ (r : Record). p r.row) rs))
+      step true = refl
+      step false = refl
+
+  -- the rows that pass, after records, are those that passed, after the records of such rows
+  pub filter-with_records : (rows : List Cells) (rs : List Record) → IsAscending row_cmp rows → filter p (with_records rows rs) ≡ with_records (filter p rows) (filter (λ (r : Record). p r.row) rs)
+  filter-with_records rows rs up =
+      filter-with_losses (with_gains rows rs) rs ∙ ap (λ l. with_losses l (filter (λ (r : Record). p r.row) rs)) (filter-with_gains rows rs up)
+
+lt_of : (a b : ℕ) → nat_lt a b ≡ true → a < b
+lt_of a b h = grind (arith, nat_tests)
+
+le_of : (a b : ℕ) → nat_lt a b ≡ false → b ≤ a
+le_of a b h = grind (arith, nat_tests)
+
+-- a record whose row has a value in the column is among those whose row has the column
+keyed_wide : (column : ℕ) (d : Datum) (rs : List Record) → filter (λ (r : Record). has column d r.row) (wide column rs) ≡ filter (λ (r : Record). has column d r.row) rs
+keyed_wide column d [] = refl
+keyed_wide column d (r ∷ rs) = step (nat_lt column (length r.row)) refl (has column d r.row) refl (keyed_wide column d rs)
+  where
+    step : (a : Bool) → nat_lt column (length r.row) ≡ a → (b : Bool) → has column d r.row ≡ b → filter (λ (r : Record). has column d r.row) (wide column rs) ≡ filter (λ (r : Record). has column d r.row) rs
+        → filter (λ (r : Record). has column d r.row) (cond a (r ∷ wide column rs) (wide column rs)) ≡ cond b (r ∷ filter (λ (r : Record). has column d r.row) rs) (filter (λ (r : Record). has column d r.row) rs)
+    step true e true f h = rw f (ap (λ t. r ∷ t) h)
+    step true e false f h = rw f h
+    step false e true f h = absurd (omega (arith, has_wide column d r.row f, le_of column (length r.row) e))
+    step false e false f h = h
+
+-- the rows of a value, after those records whose row has the column
+pub filter-wide : (column : ℕ) (d : Datum) (rows : List Cells) (rs : List Record) → IsAscending row_cmp rows
+    → filter (has column d) (with_records rows (wide column rs)) ≡ with_records (filter (has column d) rows) (filter (λ (r : Record). has column d r.row) rs)
+filter-wide column d rows rs up = filter-with_records (has column d) rows (wide column rs) up ∙ ap (with_records (filter (has column d) rows)) (keyed_wide column d rs)
+
+-- what is covered at each value is covered
+pub IsCovered-wide : (column : ℕ) (rows : List Cells) (rs : List Record) → ((d : Datum) → IsCovered (filter (has column d) rows) (filter (λ (r : Record). has column d r.row) rs)) → IsCovered rows (wide column rs)
+IsCovered-wide column rows rs h = record { enough = λ z. step z (nat_lt column (length z)) refl }
+  where
+    step : (z : Cells) (b : Bool) → nat_lt column (length z) ≡ b → losses z (wide column rs) ≤ times row_cmp z rows + gains z (wide column rs)
+    step z true e =
+        let d = cell_at z column in
+        let own = has_own z column (lt_of column (length z) e) in
+        let cover = h d in
+        omega (
+          arith,
+          cover.enough z,
+          times-filter_kept row_cmp row_total row_same (has column d) z rows own,
+          gains-kept_true (has column d) z rs own,
+          losses-kept_true (has column d) z rs own,
+          gains-kept_true (λ r. nat_lt column (length r)) z rs e,
+          losses-kept_true (λ r. nat_lt column (length r)) z rs e,
+        )
+    step z false e = omega (arith, losses-kept_false (λ r. nat_lt column (length r)) z rs e)
