@@ -2,40 +2,16 @@
 use Rattle.std.proofs.Common.{◌≡◌, ℕ, Bool, true, false, ◌||◌, not, cond, List, [], ◌∷◌, map, filter, Some, is_some, slice_get, refl, ap, sym, ◌∙◌}
 use Rattle.std.specs.List.{list_any, IsDistinct}
 use Rattle.std.specs.Map.{keys_of, values_of, lookup, remove_entry, set_value}
-use Rattle.std.specs.Ordering.{is_eq, ordering_reverse}
-use Rattle.std.specs.declared.cmp.Ordering.{Ordering}
-use Rattle.std.specs.declared.cmp.Ordering.TheVariants.{Less, Equal, Greater}
 use Rattle.std.proofs.lemmas.List.Elements.{All-head, All-tail, All-cons}
 use Rattle.std.proofs.lemmas.Map.Keys.{IsDistinct-tail}
 use Rattle.std.proofs.lemmas.Map.{NonePasses}
 use Rattle.std.proofs.lemmas.Map.Entries.{none_past_head}
-use Rattle.std.specs.Cmp.{IsEquivalence}
-use Rattle.row.specs.Cells.{Datum, Cells, datum_of, datum_cmp, same, passes, has}
-use Rattle.row.specs.CellOrder.{datum_total}
+use Rattle.row.specs.Cells.{Cells, datum_of, same, passes, has}
 use Rattle.row.proofs.Cellwise.{eq-value_is}
-use Rattle.row.proofs.Shards.{same_is, same_self}
+use Rattle.row.proofs.Keys.{same_flip, equal_is, value_equivalence}
 use Rattle.row.specs.declared.value.Value.{Value}
 use Rattle.row.specs.contracts.value.ValuePartialEq.TheImpl.{eq-value}
 use Rattle.base.specs.Stored.{IsKeyed, AreKeyed}
-
-same_flip : (a b : Datum) → same a b ≡ same b a
-same_flip a b = ap is_eq (datum_total.antisymm a b) ∙ step (datum_cmp b a)
-  where
-    step : (o : Ordering) → is_eq (ordering_reverse o) ≡ is_eq o
-    step Less = refl
-    step Equal = refl
-    step Greater = refl
-
--- equal values are one datum
-pub equal_is : (v w : Value) → eq-value.it v w ≡ true → datum_of v ≡ datum_of w
-equal_is v w h = same_is (datum_of v) (datum_of w) (sym (eq-value_is v w) ∙ h)
-
-pub value_equivalence : IsEquivalence eq-value.it
-value_equivalence = record {
-  refl = λ x. eq-value_is x x ∙ same_self (datum_of x);
-  symm = λ x y. eq-value_is x y ∙ (same_flip (datum_of x) (datum_of y) ∙ sym (eq-value_is y x));
-  congr = λ x y z h. eq-value_is x z ∙ (ap (λ d. same d (datum_of z)) (equal_is x y h) ∙ sym (eq-value_is y z));
-}
 
 -- a row has the key of a look-up exactly if its own key is equal to it
 pub has_is : (key : ℕ) (v w : Value) (row : Cells) → slice_get row key ≡ Some (datum_of w) → has key (datum_of v) row ≡ eq-value.it v w

@@ -22,7 +22,8 @@ use Rattle.base.specs.Shards.{Shard, IsAt}
 use Rattle.base.specs.Records.{plus_of, minus_of, records_of, record_count}
 use Rattle.base.specs.Stored.{IsKeyed, AreKeyed}
 use Rattle.base.proofs.Orders.{sorted_self, alike_sym}
-use Rattle.base.proofs.Lookups.{has_is, value_equivalence}
+use Rattle.base.proofs.Lookups.{has_is}
+use Rattle.row.proofs.Keys.{value_equivalence}
 
 -- ---- the row of a key
 -- two lists that are one bag, of one row, are equal

@@ -14,7 +14,8 @@ use Rattle.row.proofs.Shards.{cell_there}
 use Rattle.row.specs.declared.value.Value.{Value}
 use Rattle.row.specs.contracts.value.ValuePartialEq.TheImpl.{eq-value}
 use Rattle.model.specs.Logs.{inserts, deletes, updates, changed, is_held}
-use Rattle.base.specs.Stored.{equal, IsKeyed, AreKeyed, IsStored}
+use Rattle.row.specs.Groups.{equal}
+use Rattle.base.specs.Stored.{IsKeyed, AreKeyed, IsStored}
 use Rattle.base.specs.Shards.{Shard}
 use Rattle.std.specs.Option.{option_map, option_copied, option_copied_mut}
 use Rattle.base.proofs.Orders.{any_sorted, permuted_alike}

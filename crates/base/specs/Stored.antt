@@ -1,13 +1,9 @@
 -- How a base shard stores its rows.
-use Rattle.std.specs.Prelude.{◌≡◌, ℕ, ◌<◌, Bool, All, List, Option, Some, IfSome, slice_get}
+use Rattle.std.specs.Prelude.{◌≡◌, ℕ, ◌<◌, All, List, Option, Some, IfSome, slice_get}
 use Rattle.std.specs.HashMap.{HashMap, IsUnique, spare}
 use Rattle.row.specs.Cells.{Cells, datum_of}
 use Rattle.row.specs.declared.value.Value.{Value}
-use Rattle.row.specs.contracts.value.ValuePartialEq.TheImpl.{eq-value}
-
--- what the code's `==` answers for two values
-abbrev pub equal : Value → Value → Bool
-equal = eq-value.it
+use Rattle.row.specs.Groups.{equal}
 
 -- the row has its key in the key column
 abbrev pub IsKeyed : ℕ → Value × Cells → Type 0

@@ -9,7 +9,7 @@ ghost use Rattle.model.specs.Refusals.{full, refusal};
 ghost use Rattle.model.specs.Entries.{change_of};
 ghost use Rattle.base.specs.Shards.{Shard, IsAt, HasKey, HasRoom, adds_row, room_after, rows_with, rows_after, after_entry, refusal_of, verdict};
 ghost use Rattle.base.specs.Records.{plus_of, minus_of, records_of, records_at, record_count};
-ghost use Rattle.base.specs.Stored.{equal};
+ghost use Rattle.row.specs.Groups.{equal};
 
 use model::entry::Entry;
 use row::record::{Record, Sign};

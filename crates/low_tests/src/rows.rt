@@ -1,9 +1,16 @@
-//! Values, rows and bags.
+//! Values, rows, bags, and rows by a column.
+ghost use Rattle.std.specs.Prelude.{◌≡◌, ◌∷◌, [], List, IfOk, pos};
+ghost use Rattle.row.specs.Cells.{Cells, int};
+ghost use Rattle.row.specs.Changes.{IsCovered};
+ghost use Rattle.row.specs.Groups.{wide};
+
 use crate::cells::Cell::{self, Int, Text};
 use crate::cells::{row, value};
 use row::bag::Bag;
+use row::grouped::Grouped;
 use row::record::{Record, Sign};
-use row::value::shard_of;
+use row::row::Row;
+use row::value::{Value, shard_of};
 use std::alloc::{AllocError, Global};
 use std::cmp::Ordering;
 use std::test::Fail;
@@ -150,5 +157,41 @@ fn is_copied(alloc: Global) -> Result<bool, AllocError> {
 #[test]
 fn a_record_is_copied_whole(rt: HostRuntime) -> Result<(), Fail> {
     assert!(rt; is_copied(rt.alloc())?);
+    Ok(())
+}
+
+/// A record of a row that has 7 in its second column.
+fn signed(alloc: Global, id: i128, sign: Sign) -> Result<Record, AllocError>
+    ensures { IfOk result (λ r. r ≡ record { row = int id ∷ int (pos 7) ∷ []; sign = sign }) }
+{
+    let row = Row::new(vec![in alloc; Value::Int(id), Value::Int(7)]?);
+    Ok(Record { row, sign })
+}
+
+/// A change that takes row 2 away before it adds it.
+fn exchange(alloc: Global) -> Result<Vec<Record>, AllocError>
+    ensures { IfOk result (λ v. (rows : List Cells) → IsCovered rows (wide 1 v.items)) }
+{
+    let taken = signed(alloc, 2, Sign::Minus)?;
+    let given = signed(alloc, 2, Sign::Plus)?;
+    Ok(vec![in alloc; taken, given]?)
+}
+
+/// Adds two rows, and exchanges one.
+fn fill(found: &mut Grouped, alloc: Global) -> Result<(), AllocError>
+    requires { found.old.column ≡ 1 }
+{
+    for id in 1..3 {
+        found.add(alloc, &signed(alloc, id, Sign::Plus)?.row)?;
+    }
+    found.apply(alloc, exchange(alloc)?.as_slice())
+}
+
+#[test]
+fn rows_are_found_by_a_column(rt: HostRuntime) -> Result<(), Fail> {
+    let mut found = Grouped::new(rt.alloc(), 1);
+    fill(&mut found, rt.alloc())?;
+    assert!(rt; found.rows_of(&Value::Int(7)).len() == 2);
+    assert!(rt; found.rows_of(&Value::Int(1)).is_empty());
     Ok(())
 }

@@ -24,7 +24,7 @@ use Rattle.model.proofs.Growth.{log_more}
 use Rattle.model.proofs.PlaceLaws.{before_none, before_more, base_layout}
 use Rattle.std.specs.List.{range_with_len}
 use Rattle.domain.specs.Packets.{PacketView, IsTruePacket}
-use Rattle.view.specs.Directories.{keyed}
+use Rattle.view.specs.Snapshots.{keyed}
 use Rattle.view.specs.Snapshots.{IsDelta, key_column}
 use Rattle.system.specs.Served.{IsSingle}
 

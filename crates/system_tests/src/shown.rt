@@ -1,12 +1,10 @@
-//! A directory, and a shown copy of the notes by author.
+//! A shown copy of the notes by author.
 ghost use Rattle.std.specs.Prelude.{◌≡◌, ◌∷◌, List, [], IfOk, codes, drop as dropped, pos};
 ghost use Rattle.row.specs.Cells.{Cells, Datum, datum_of, int, text};
-ghost use Rattle.row.specs.Changes.{IsCovered};
 ghost use Rattle.plan.specs.Recipes.{notes_plan};
 ghost use Rattle.book.specs.Fronts.{entries};
 ghost use Rattle.model.specs.Histories.{view_shard};
 ghost use Rattle.model.specs.Logs.{inserts};
-ghost use Rattle.view.specs.Directories.{keyed};
 ghost use Rattle.view.specs.Snapshots.{zero_lengths};
 
 use crate::calls::{fail, wrong};
@@ -24,45 +22,12 @@ use std::alloc::{AllocError, Global};
 use std::sync::Wait;
 use std::test::Fail;
 use view::delta::Delta;
-use view::directory::Directory;
 use view::reader::{Look, ShownReader};
 use view::writer::{self, ShownWriter};
 
 #[test]
 fn looks_between_publications(rt: HostRuntime) -> Result<(), Fail> {
     run(rt, rt.alloc(), 1, Scene::Looks)
-}
-
-#[test]
-fn rows_of_keys(rt: HostRuntime) -> Result<(), Fail> {
-    let mut directory = Directory::new(rt.alloc());
-    fill(&mut directory, rt.alloc())?;
-    assert!(rt; are_notes(directory.rows(&Value::Int(7)), &[1, 2]));
-    Ok(())
-}
-
-// Adds notes of two authors, and exchanges one.
-fn fill(directory: &mut Directory, alloc: Global) -> Result<(), AllocError> {
-    for (author, id) in [(7, 2), (7, 1), (8, 3)] {
-        directory.add(alloc, &Value::Int(author), note(alloc, id, author)?)?;
-    }
-    directory.apply(alloc, 1, exchange(alloc)?.as_slice())
-}
-
-// A change that takes note 2 away before it adds it.
-fn exchange(alloc: Global) -> Result<Vec<Record>, AllocError>
-    ensures { IfOk result (λ v. (rows : List Cells) (k : Datum) → IsCovered rows (keyed 1 k v.items)) }
-{
-    let taken = change(alloc, 2, Sign::Minus)?;
-    let given = change(alloc, 2, Sign::Plus)?;
-    Ok(vec![in alloc; taken, given]?)
-}
-
-fn change(alloc: Global, id: i128, sign: Sign) -> Result<Record, AllocError>
-    ensures { IfOk result (λ r. r ≡ record { row = int id ∷ int (pos 7) ∷ text (codes "a") ∷ []; sign = sign }) }
-{
-    let row = note(alloc, id, 7)?;
-    Ok(Record { row, sign })
 }
 
 // Looks before, between and after a change was appended and published.

@@ -1,8 +1,7 @@
 -- Over no entries each answer is empty.
 use Rattle.std.proofs.Common.{◌≡◌, ℕ, zero, suc, ◌+◌, List, [], ◌∷◌, ◌++◌, length, take, drop, filter, replicate, Option, Some, None, refl, ap, sym, ◌∙◌}
 use Rattle.row.specs.Bags.{Each, joined, sorted}
-use Rattle.row.specs.Cells.{Datum, Cells, datum_of, row_cmp, has}
-use Rattle.row.specs.declared.value.Value.{Value}
+use Rattle.row.specs.Cells.{Datum, Cells, row_cmp, has}
 use Rattle.plan.specs.Layouts.{SideLayout, Layout, view_at}
 use Rattle.plan.specs.Outputs.{out, output, key_place}
 use Rattle.plan.specs.declared.kinds.Aggregate.{Aggregate}
@@ -69,5 +68,5 @@ blank_fronts p h (suc n) = (blank_line h (sources p), blank_fronts p h n)
 zero_answer : (p : Layout) (h : List Item) (n i : ℕ) (k : Datum) → answer p (fronts_of p h (replicate n (replicate (length (sources p)) 0))) i k ≡ []
 zero_answer p h n i k = ap (sorted row_cmp) (parts_blank p 0 (fronts_of p h (replicate n (replicate (length (sources p)) 0))) i k (blank_fronts p h n))
 
-pub zero_answers : (p : Layout) (view shard : ℕ) (cut : CutView) (rows : Value → List Cells) → cut.lengths ≡ zero_lengths p → ((k : Value) → rows k ≡ []) → AreAnswers p view shard cut rows
-zero_answers p view shard cut rows zeros none k own = none k ∙ sym (ap (λ ls. answer p (fronts_of p cut.seen ls) view (datum_of k)) zeros ∙ zero_answer p cut.seen p.stages view (datum_of k))
+pub zero_answers : (p : Layout) (view shard : ℕ) (cut : CutView) (rows : Datum → List Cells) → cut.lengths ≡ zero_lengths p → ((k : Datum) → rows k ≡ []) → AreAnswers p view shard cut rows
+zero_answers p view shard cut rows zeros none k own = none k ∙ sym (ap (λ ls. answer p (fronts_of p cut.seen ls) view k) zeros ∙ zero_answer p cut.seen p.stages view k)

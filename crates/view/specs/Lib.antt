@@ -1,4 +1,3 @@
-pub mod Directories
 pub mod Snapshots
 pub mod Sights
 pub mod Looks

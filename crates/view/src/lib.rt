@@ -4,7 +4,6 @@
 #![tactic(auto)]
 
 pub mod delta;
-pub mod directory;
 pub mod reader;
 mod rule;
 mod shown;

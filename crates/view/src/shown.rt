@@ -6,13 +6,13 @@ ghost use Rattle.plan.specs.Layouts.{view_at};
 ghost use Rattle.view.specs.Snapshots.{is_shown, key_column, rows_shown, zero_lengths};
 
 use crate::delta::Delta;
-use crate::directory::Directory;
 use crate::rule::Shot;
 use book::cut::Cut;
 use book::law::Naming;
 use book::part::Part;
 use left_right::Absorb;
 use plan::plan::Plan;
+use row::grouped::Grouped;
 use row::row::Row;
 use row::value::Value;
 use std::alloc::{AllocError, Global};
@@ -24,22 +24,23 @@ pub struct Shown<J: Naming> {
     alloc: Global,
     view: usize,
     shard: usize,
-    column: usize,
-    rows: Directory,
+    rows: Grouped,
     cut: Cut<J>,
     asked: u64,
 }
 
 impl<J: Naming> Model for Shown<J> {
     ghost use Rattle.std.specs.Prelude.{◌≡◌};
-    ghost use Rattle.view.specs.Directories.{rows_under};
-    ghost use Rattle.view.specs.Snapshots.{Snapshot, AreAnswers, key_column};
+    ghost use Rattle.row.specs.Bags.{IsAscending};
+    ghost use Rattle.row.specs.Cells.{row_cmp};
+    ghost use Rattle.view.specs.Snapshots.{Snapshot, AreAnswers, key_column, rows_by};
 
     ghost Value = { Snapshot };
 
     ghost view = { λ s. record { view = s.view; shard = s.shard; cut = s.cut; asked = s.asked } };
 
-    ghost invariant = { λ s. (s.column ≡ key_column J.plan s.view) × AreAnswers J.plan s.view s.shard s.cut (λ k. rows_under k s.rows.bags) };
+    ghost invariant = { λ s. (s.rows.column ≡ key_column J.plan s.view) × IsAscending row_cmp s.rows.rows
+        × AreAnswers J.plan s.view s.shard s.cut (rows_by s.rows) };
 }
 
 impl<J: Naming> Shown<J> {
@@ -62,8 +63,7 @@ impl<J: Naming> Shown<J> {
             alloc,
             view,
             shard,
-            column: key_column(plan, view),
-            rows: Directory::new(alloc),
+            rows: Grouped::new(alloc, key_column(plan, view)),
             cut: Cut::zeros(alloc, plan, part)?,
             asked: 0,
         })
@@ -78,20 +78,19 @@ impl<J: Naming> Shown<J> {
             alloc: self.alloc,
             view: self.view,
             shard: self.shard,
-            column: self.column,
-            rows: Directory::new(self.alloc),
+            rows: Grouped::new(self.alloc, self.rows.column()),
             cut: self.cut.again(self.alloc)?,
             asked: self.asked,
         })
     }
 
-    /// The entry of the key, whose shard this is. A full directory has one for each key.
+    /// The entry of the key, whose shard this is. All keys are shown, so each has one.
     pub fn entry(&self, key: &Value) -> Option<&[Row]>
         requires { view_shard J.plan self.now.view (datum_of key.now) ≡ self.now.shard }
         ensures rows { IfSome result (λ rows. rows.now ≡ rows_shown J.plan self.now (datum_of key.now)) }
         ensures none { IsNone result → is_shown self.now (datum_of key.now) ≡ false }
     {
-        Some(self.rows.rows(key))
+        Some(self.rows.rows_of(key))
     }
 
     /// The view.
@@ -130,8 +129,7 @@ impl<J: Naming> Absorb<Delta<J>> for Shown<J> {
             return Err(AllocError);
         }
         let after = delta.after.again(self.alloc)?;
-        self.rows
-            .apply(self.alloc, self.column, delta.changes.as_slice())?;
+        self.rows.apply(self.alloc, delta.changes.as_slice())?;
         self.cut = after;
         self.asked = delta.asked;
         Ok(())

@@ -1,7 +1,7 @@
 use Rattle.std.proofs.Common.{◌≡◌, Some, ap, sym, ◌∙◌}
 use Rattle.std.specs.Option.{option_copied}
 use Rattle.std.specs.Map.{lookup}
-use Rattle.base.specs.Stored.{equal}
+use Rattle.row.specs.Groups.{equal}
 use Rattle.base.proofs.Stores.{row_there}
 use Rattle.base.proofs.Records.{found_sorted}
 use Rattle.base.proofs.shard.BaseShard.minus.Goals as goal
