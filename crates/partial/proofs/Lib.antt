@@ -1,4 +1,4 @@
 pub mod Reversed
 pub mod InHand
 pub mod Truth
-pub mod BagChanges
+pub mod BagSums

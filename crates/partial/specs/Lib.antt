@@ -1,4 +1,4 @@
 pub mod States
 pub mod Truth
-pub mod Changes
+pub mod Sums
 pub mod BagLaws

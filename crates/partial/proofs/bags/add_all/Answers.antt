@@ -1,7 +1,7 @@
 use Rattle.std.proofs.Common.{arith}
 use Rattle.row.specs.Cells.{row_cmp}
 use Rattle.row.proofs.BagLemmas.{times-inserted}
-use Rattle.partial.proofs.BagChanges.{times-take}
+use Rattle.partial.proofs.BagSums.{times-take}
 use Rattle.partial.proofs.bags.add_all.Goals as goal
 
 pub loop-row-preserved : goal.loop-row-preserved
