@@ -111,7 +111,8 @@ pub fn source_at(plan: &Plan, source: usize) -> usize
 /// only. Cost: a look at each table for each source.
 pub fn sources(alloc: Global, plan: &Plan) -> Result<Vec<usize>, AllocError>
     ensures sources { IfOk result (λ v. v.items ≡ sources plan.now) }
-    ensures domains { IfOk result (λ v. v.items ≡ map (number_of plan.now) (domain_sources plan.now)) }
+    ensures domains { IfOk result (λ v. v.items
+        ≡ map (number_of plan.now) (domain_sources plan.now)) }
     ensures range { IfOk result (λ v. Each (λ b. b < base_count plan.now) v.items) }
 {
     plan.keeps_profile();

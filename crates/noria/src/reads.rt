@@ -40,7 +40,8 @@ pub fn read<J: Naming>(
 // The key that the word is: it is read by the view's key column, and where there is no such view it
 // is a text.
 fn key_of_word(alloc: Global, plan: &Plan, view: &str, word: String) -> Result<Value, AllocError>
-    ensures { IfOk result (λ key. IsRead (kind_of_key plan.now view.now) (string_bytes word) (datum_of key)) }
+    ensures { IfOk result (λ key. IsRead (kind_of_key plan.now view.now) (string_bytes word)
+        (datum_of key)) }
 {
     value_of(alloc, kind_of_key(plan, view), word)
 }

@@ -73,7 +73,8 @@ pub fn is_at_most(cut: &Lengths, other: &Lengths) -> bool
 
 /// The fronts that the line names.
 fn line_of(alloc: Global, plan: &Plan, items: &[Item], line: &[u64]) -> Result<Line, AllocError>
-    ensures { IfOk result (λ fronts. fronts ≡ line_of (history_of items.now) (sources plan.now) line.now) }
+    ensures { IfOk result (λ fronts. fronts ≡ line_of (history_of items.now) (sources plan.now)
+        line.now) }
 {
     let mut fronts = Vec::new(alloc);
     for source in 0..source_count(plan).min(line.len()) {

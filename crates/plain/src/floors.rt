@@ -28,7 +28,9 @@ pub fn view_shard(plan: &Plan, view: usize, key: &Value) -> usize
 /// Whether the read is of the session and of the shard of the view.
 fn is_of(plan: &Plan, read: &Read, session: usize, view: usize, shard: usize) -> bool
     requires { view < length plan.now.views }
-    ensures { result ≡ ((read.now.session == session) && ((read.now.view == view) && (view_shard plan.now read.now.view (datum_of read.now.key) == shard))) }
+    ensures { result ≡ ((read.now.session == session) &&
+        ((read.now.view == view) && (view_shard plan.now read.now.view (datum_of read.now.key) ==
+        shard))) }
 {
     read.session == session && read.view == view && view_shard(plan, view, &read.key) == shard
 }
@@ -45,7 +47,8 @@ fn floor_after<'a>(
 ) -> &'a Lengths
     requires view { view < length plan.now.views }
     requires none { none.now ≡ [] }
-    ensures { result.now ≡ last_or floor.now (floor_in plan.now session view shard (item_of item.now)) }
+    ensures { result.now ≡ last_or floor.now (floor_in plan.now session view shard
+        (item_of item.now)) }
 {
     match item {
         Item::Write(_) => floor,
@@ -92,7 +95,8 @@ pub fn floor_of<'a>(
 fn is_view_within(plan: &Plan, items: &[Item], floors: &Floors, view: usize, none: &Lengths) -> bool
     requires view { view < length plan.now.views }
     requires none { none.now ≡ [] }
-    ensures { Tells result ((j : ℕ) → j < (view_at plan.now view).shards → IsWithin plan.now (history_of items.now) (floor_at floors.now view j)) }
+    ensures { Tells result ((j : ℕ) → j < (view_at plan.now view).shards
+        → IsWithin plan.now (history_of items.now) (floor_at floors.now view j)) }
 {
     for shard in 0..plan.view(view).shards() {
         if !is_within(plan, items, floors.floor_at(view, shard, none)) {
@@ -105,7 +109,8 @@ fn is_view_within(plan: &Plan, items: &[Item], floors: &Floors, view: usize, non
 /// Whether the floor at each shard of each view is a cut within the history. Takes no memory. Cost:
 /// a look at each item for each length.
 pub fn are_within(alloc: Global, plan: &Plan, items: &[Item], floors: &Floors) -> bool
-    ensures { Tells result (EachShard plan.now (λ i j. IsWithin plan.now (history_of items.now) (floor_at floors.now i j))) }
+    ensures { Tells result (EachShard plan.now
+        (λ i j. IsWithin plan.now (history_of items.now) (floor_at floors.now i j))) }
 {
     let none = Lengths::empty(alloc);
     for view in 0..plan.views() {
@@ -127,7 +132,9 @@ fn is_view_above(
 ) -> bool
     requires view { view < length plan.now.views }
     requires none { none.now ≡ [] }
-    ensures { Tells result ((j : ℕ) → j < (view_at plan.now view).shards → IsAtMost (floor_of plan.now session view j (history_of items.now)) (floor_at floors.now view j)) }
+    ensures { Tells result ((j : ℕ) → j < (view_at plan.now view).shards
+        → IsAtMost (floor_of plan.now session view j (history_of items.now))
+        (floor_at floors.now view j)) }
 {
     for shard in 0..plan.view(view).shards() {
         let old = floor_of(plan, items, session, view, shard, none);
@@ -147,7 +154,9 @@ pub fn are_above(
     session: usize,
     floors: &Floors,
 ) -> bool
-    ensures { Tells result (EachShard plan.now (λ i j. IsAtMost (floor_of plan.now session i j (history_of items.now)) (floor_at floors.now i j))) }
+    ensures { Tells result (EachShard plan.now
+        (λ i j. IsAtMost (floor_of plan.now session i j (history_of items.now))
+        (floor_at floors.now i j))) }
 {
     let none = Lengths::empty(alloc);
     for view in 0..plan.views() {

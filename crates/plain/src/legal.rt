@@ -45,7 +45,8 @@ fn shard_of_entry(table: &Table, entry: &Entry) -> usize
 
 /// Whether the number is above each that the session has among the authors.
 fn is_number_above(authors: &[Author], session: usize, number: u64) -> bool
-    ensures { Tells result (Each (λ (a : AuthorView). a.session ≡ session → a.number < number) authors.now) }
+    ensures { Tells result (Each (λ (a : AuthorView). a.session ≡ session → a.number < number)
+        authors.now) }
 {
     for author in authors {
         if author.session() == session && author.number() >= number {
@@ -62,7 +63,9 @@ fn allows_write(
     items: &[Item],
     write: &Write,
 ) -> Result<bool, AllocError>
-    ensures { IfOk result (λ allowed. Tells allowed (AllowsWrite plan.now (history_of items.now) write.now.session write.now.number write.now.base (change_of write.now.entry))) }
+    ensures { IfOk result (λ allowed. Tells allowed
+        (AllowsWrite plan.now (history_of items.now) write.now.session write.now.number
+        write.now.base (change_of write.now.entry))) }
 {
     let Some((table, shard)) = place_of(plan, write.base) else {
         return Ok(false);
@@ -105,7 +108,9 @@ fn allows_read(
     read: &Read,
 ) -> Result<bool, AllocError>
     requires { IsLegal plan.now sessions (history_of items.now) }
-    ensures { IfOk result (λ allowed. Tells allowed (AllowsRead plan.now sessions (history_of items.now) read.now.session read.now.view (datum_of read.now.key) read.now.rows.items read.now.cut)) }
+    ensures { IfOk result (λ allowed. Tells allowed
+        (AllowsRead plan.now sessions (history_of items.now) read.now.session read.now.view
+        (datum_of read.now.key) read.now.rows.items read.now.cut)) }
 {
     if read.session >= sessions {
         return Ok(false);
@@ -139,7 +144,9 @@ fn allows_fence(
     items: &[Item],
     fence: &Fence,
 ) -> Result<bool, AllocError>
-    ensures { IfOk result (λ allowed. Tells allowed (AllowsFence plan.now sessions (history_of items.now) fence.now.session (places_of fence.now.own.items) fence.now.floors)) }
+    ensures { IfOk result (λ allowed. Tells allowed
+        (AllowsFence plan.now sessions (history_of items.now) fence.now.session
+        (places_of fence.now.own.items) fence.now.floors)) }
 {
     if fence.session >= sessions {
         return Ok(false);
@@ -169,7 +176,8 @@ pub fn allows(
     item: &Item,
 ) -> Result<bool, AllocError>
     requires { IsLegal plan.now sessions (history_of items.now) }
-    ensures { IfOk result (λ allowed. Tells allowed (Allows plan.now sessions (history_of items.now) (item_of item.now))) }
+    ensures { IfOk result (λ allowed. Tells allowed
+        (Allows plan.now sessions (history_of items.now) (item_of item.now))) }
 {
     match item {
         Item::Write(write) => allows_write(alloc, plan, items, write),

@@ -16,7 +16,8 @@ fn push_entry(
     base: usize,
     item: &Item,
 ) -> Result<(), AllocError>
-    ensures { OnOk result (map change_of entries.new.items ≡ map change_of entries.old.items ++ entry_in base (item_of item.now)) }
+    ensures { OnOk result (map change_of entries.new.items ≡ map change_of entries.old.items
+        ++ entry_in base (item_of item.now)) }
 {
     if let Item::Write(write) = item {
         if write.base == base {
@@ -28,7 +29,8 @@ fn push_entry(
 
 /// Copies of the entries of the writes to the base shard, in order.
 fn entries_of(alloc: Global, items: &[Item], base: usize) -> Result<Vec<Entry>, AllocError>
-    ensures { IfOk result (λ entries. map change_of entries.items ≡ log_of base (history_of items.now)) }
+    ensures { IfOk result (λ entries. map change_of entries.items
+        ≡ log_of base (history_of items.now)) }
 {
     let mut entries = Vec::new(alloc);
     for item in items {
@@ -85,7 +87,8 @@ pub fn log_length(items: &[Item], base: usize) -> usize
 
 /// Adds at the end the author that the item adds to the base shard's log, if any.
 fn push_author(authors: &mut Vec<Author>, base: usize, item: &Item) -> Result<(), AllocError>
-    ensures { OnOk result (authors.new.items ≡ authors.old.items ++ author_in base (item_of item.now)) }
+    ensures { OnOk result (authors.new.items ≡ authors.old.items
+        ++ author_in base (item_of item.now)) }
 {
     if let Item::Write(write) = item {
         if write.base == base {

@@ -20,7 +20,8 @@ use std::alloc::{AllocError, Global};
 
 /// Whether the line of the stage shard goes past the place, wherever that is in a source.
 fn is_line_past(plan: &Plan, cut: &Lengths, stage: usize, place: Place) -> bool
-    ensures { Tells result ((j : ℕ) → j < length (sources plan.now) → source_at plan.now j ≡ place.base → place.index < len_at cut.now stage j) }
+    ensures { Tells result ((j : ℕ) → j < length (sources plan.now) → source_at plan.now j
+        ≡ place.base → place.index < len_at cut.now stage j) }
 {
     for source in 0..source_count(plan) {
         if source_at(plan, source) == place.base && cut.len(stage, source) <= place.index {
@@ -59,7 +60,8 @@ fn is_past_all(plan: &Plan, cut: &Lengths, own: &[Place]) -> bool
 fn is_view_past(plan: &Plan, floors: &Floors, own: &[Place], view: usize, none: &Lengths) -> bool
     requires view { view < length plan.now.views }
     requires none { none.now ≡ [] }
-    ensures { Tells result ((j : ℕ) → j < (view_at plan.now view).shards → Each (IsPast plan.now (floor_at floors.now view j)) (places_of own.now)) }
+    ensures { Tells result ((j : ℕ) → j < (view_at plan.now view).shards
+        → Each (IsPast plan.now (floor_at floors.now view j)) (places_of own.now)) }
 {
     for shard in 0..plan.view(view).shards() {
         if !is_past_all(plan, floors.floor_at(view, shard, none), own) {
@@ -72,7 +74,8 @@ fn is_view_past(plan: &Plan, floors: &Floors, own: &[Place], view: usize, none: 
 /// Whether the floor at each shard of each view is past each of the places. Takes no memory. Cost:
 /// a look at each length for each place.
 pub fn are_past(alloc: Global, plan: &Plan, floors: &Floors, own: &[Place]) -> bool
-    ensures { Tells result (EachShard plan.now (λ i j. Each (IsPast plan.now (floor_at floors.now i j)) (places_of own.now))) }
+    ensures { Tells result (EachShard plan.now
+        (λ i j. Each (IsPast plan.now (floor_at floors.now i j)) (places_of own.now))) }
 {
     let none = Lengths::empty(alloc);
     for view in 0..plan.views() {
@@ -104,7 +107,8 @@ pub fn is_own(
     session: usize,
     place: Place,
 ) -> Result<bool, AllocError>
-    ensures { IfOk result (λ own. Tells own (IsOwn plan.now (history_of items.now) session (place_of place))) }
+    ensures { IfOk result (λ own. Tells own (IsOwn plan.now (history_of items.now) session
+        (place_of place))) }
 {
     if !is_source(plan, place.base) {
         return Ok(false);
@@ -125,7 +129,8 @@ pub fn are_own(
     session: usize,
     own: &[Place],
 ) -> Result<bool, AllocError>
-    ensures { IfOk result (λ all. Tells all (Each (IsOwn plan.now (history_of items.now) session) (places_of own.now))) }
+    ensures { IfOk result (λ all. Tells all (Each (IsOwn plan.now (history_of items.now) session)
+        (places_of own.now))) }
 {
     for place in own {
         if !is_own(alloc, plan, items, session, *place)? {

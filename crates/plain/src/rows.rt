@@ -54,7 +54,8 @@ fn without(mut rows: Vec<Row>, key: usize, value: &Value) -> Vec<Row>
 
 /// The row in place of each of its key.
 fn replaced(alloc: Global, key: usize, rows: Vec<Row>, row: &Row) -> Result<Vec<Row>, AllocError>
-    ensures { IfOk result (λ after. after.items ≡ map (λ x. cond (has key (cell_at row.now key) x) row.now x) rows.items) }
+    ensures { IfOk result (λ after. after.items
+        ≡ map (λ x. cond (has key (cell_at row.now key) x) row.now x) rows.items) }
 {
     let zero = Value::Int(0);
     let value = row.cell_or(key, &zero);

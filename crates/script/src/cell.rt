@@ -13,7 +13,8 @@ use std::alloc::{AllocError, Global};
 #[tactic(auto, using(crate::proofs::Numbers::read_once))]
 pub fn value_of(alloc: Global, kind: Kind, word: String) -> Result<Value, AllocError>
     ensures read { IfOk result (λ value. IsRead kind (string_bytes word) (datum_of value)) }
-    ensures only { IfOk result (λ value. (other : Datum) → IsRead kind (string_bytes word) other → other ≡ datum_of value) }
+    ensures only { IfOk result (λ value. (other : Datum) → IsRead kind (string_bytes word) other
+        → other ≡ datum_of value) }
 {
     match kind {
         Kind::Int => match number_of(alloc, word.as_str())? {
@@ -26,7 +27,8 @@ pub fn value_of(alloc: Global, kind: Kind, word: String) -> Result<Value, AllocE
 
 // The number that the word prints, if there is one.
 fn number_of(alloc: Global, word: &str) -> Result<Option<i64>, AllocError>
-    ensures { IfOk result (λ found. MatchOption found ((n : ℤ) → ¬ Prints word.now n) (λ n. Prints word.now n)) }
+    ensures { IfOk result (λ found. MatchOption found ((n : ℤ) → ¬ Prints word.now n)
+        (λ n. Prints word.now n)) }
 {
     let Ok(number) = word.parse::<i64>() else {
         return Ok(None);

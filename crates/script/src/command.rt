@@ -21,8 +21,10 @@ impl Command {
     // The command that the words ask for: its name, and then its operands.
     pub(crate) fn of(mut words: Vec<String>) -> Option<Command>
         requires { 0 < length words.items }
-        ensures some { IfSome result (λ command. Asks (map string_bytes words.items) (action_of command)) }
-        ensures none { IsNone result → (action : Action) → ¬ Asks (map string_bytes words.items) action }
+        ensures some { IfSome result (λ command. Asks (map string_bytes words.items)
+            (action_of command)) }
+        ensures none { IsNone result → (action : Action)
+            → ¬ Asks (map string_bytes words.items) action }
     {
         let name = words.remove(0);
         match name.as_str() {
@@ -45,8 +47,10 @@ impl Command {
     }
 
     fn insert(mut operands: Vec<String>) -> Option<Command>
-        ensures some { IfSome result (λ command. Asks (codes "insert" ∷ map string_bytes operands.items) (action_of command)) }
-        ensures none { IsNone result → (action : Action) → ¬ Asks (codes "insert" ∷ map string_bytes operands.items) action }
+        ensures some { IfSome result (λ command.
+            Asks (codes "insert" ∷ map string_bytes operands.items) (action_of command)) }
+        ensures none { IsNone result → (action : Action)
+            → ¬ Asks (codes "insert" ∷ map string_bytes operands.items) action }
     {
         if operands.len() < 2 {
             return None;
@@ -61,8 +65,10 @@ impl Command {
 
 // The operands `VIEW KEY`, where they are just two.
 fn view_and_key(mut operands: Vec<String>) -> Option<(String, String)>
-    ensures some { IfSome result (λ found. map string_bytes operands.items ≡ string_bytes found.0 ∷ string_bytes found.1 ∷ []) }
-    ensures none { IsNone result → (view key : List ℕ) → map string_bytes operands.items ≢ view ∷ key ∷ [] }
+    ensures some { IfSome result (λ found. map string_bytes operands.items
+        ≡ string_bytes found.0 ∷ string_bytes found.1 ∷ []) }
+    ensures none { IsNone result → (view key : List ℕ)
+        → map string_bytes operands.items ≢ view ∷ key ∷ [] }
 {
     if operands.len() != 2 {
         return None;

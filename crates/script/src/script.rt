@@ -100,8 +100,11 @@ impl Reader {
     fn take(&mut self, alloc: Global, line: &[u8]) -> Result<(), ScriptError>
         requires { self.old.lines + 1 < 2 ^ 64 }
         ensures lines { OnOk result (self.new.lines ≡ self.old.lines + 1) }
-        ensures calls { OnOk result ((said : Option Action) × Says line.now said × (map numbered self.new.calls.items ≡ map numbered self.old.calls.items ++ call_at (self.old.lines + 1) said)) }
-        ensures fault { (number : ℕ) → IsErrOf result (ScriptError.BadScript number) → (number ≡ self.old.lines + 1) × IsFault line.now }
+        ensures calls { OnOk result ((said : Option Action) × Says line.now said
+            × (map numbered self.new.calls.items ≡ map numbered self.old.calls.items
+            ++ call_at (self.old.lines + 1) said)) }
+        ensures fault { (number : ℕ) → IsErrOf result (ScriptError.BadScript number)
+            → (number ≡ self.old.lines + 1) × IsFault line.now }
     {
         let number = self.lines + 1;
         match command_of(alloc, line) {
@@ -125,7 +128,8 @@ impl Reader {
 /// and no line has a line feed in it. It does nothing.
 #[tactic(auto, using(crate::proofs::Lines::lines_ended, crate::proofs::Lines::lines_whole))]
 pub fn lines_are_the_text()
-    ensures ended { (text : List ℕ) → (ended (lines_of text) ≡ text) ⊎ (ended (lines_of text) ≡ text ++ 10 ∷ []) }
+    ensures ended { (text : List ℕ) → (ended (lines_of text) ≡ text)
+        ⊎ (ended (lines_of text) ≡ text ++ 10 ∷ []) }
     ensures whole { (text : List ℕ) → list_all is_whole (lines_of text) ≡ true }
 {}
 
@@ -133,9 +137,12 @@ pub fn lines_are_the_text()
 /// line that is neither skipped nor a call. A look at each byte, and a copy of the words.
 pub fn read_script(alloc: Global, text: &[u8]) -> Result<Vec<Call>, ScriptError>
     ensures ok { IfOk result (λ calls. IsScript 1 (lines_of text.now) (map numbered calls.items)) }
-    ensures only { IfOk result (λ calls. (others : List Numbered) → IsScript 1 (lines_of text.now) others → others ≡ map numbered calls.items) }
-    ensures first { (number : ℕ) → IsErrOf result (ScriptError.BadScript number) → IsFirstFault (lines_of text.now) number }
-    ensures none { (number : ℕ) → IsErrOf result (ScriptError.BadScript number) → (calls : List Numbered) → ¬ IsScript 1 (lines_of text.now) calls }
+    ensures only { IfOk result (λ calls. (others : List Numbered)
+        → IsScript 1 (lines_of text.now) others → others ≡ map numbered calls.items) }
+    ensures first { (number : ℕ) → IsErrOf result (ScriptError.BadScript number)
+        → IsFirstFault (lines_of text.now) number }
+    ensures none { (number : ℕ) → IsErrOf result (ScriptError.BadScript number)
+        → (calls : List Numbered) → ¬ IsScript 1 (lines_of text.now) calls }
 {
     let mut reader = Reader {
         calls: Vec::new(alloc),

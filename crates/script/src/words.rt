@@ -119,8 +119,10 @@ impl Reader {
     }
 
     fn take(&mut self, alloc: Global, byte: u8) -> Result<(), LineError>
-        ensures ok { OnOk result ((bytes : List ℕ) → gives self.new bytes ≡ gives self.old (byte ∷ bytes)) }
-        ensures fault { IsErrOf result LineError.BadLine → (bytes : List ℕ) → gives self.old (byte ∷ bytes) ≡ None }
+        ensures ok { OnOk result ((bytes : List ℕ) → gives self.new bytes
+            ≡ gives self.old (byte ∷ bytes)) }
+        ensures fault { IsErrOf result LineError.BadLine → (bytes : List ℕ)
+            → gives self.old (byte ∷ bytes) ≡ None }
     {
         match self.place.step(ByteClass::of(byte)) {
             Step::Go(place) => self.place = place,
@@ -163,8 +165,10 @@ impl Reader {
 #[tactic(auto, using(crate::proofs::Scan::front_nil))]
 pub fn words(alloc: Global, line: &[u8]) -> Result<Vec<String>, LineError>
     ensures ok { IfOk result (λ found. IsLine line.now (map string_bytes found.items)) }
-    ensures only { IfOk result (λ found. (others : List (List ℕ)) → IsLine line.now others → others ≡ map string_bytes found.items) }
-    ensures fault { IsErrOf result LineError.BadLine → (others : List (List ℕ)) → IsLine line.now others → ⊥ }
+    ensures only { IfOk result (λ found. (others : List (List ℕ)) → IsLine line.now others → others
+        ≡ map string_bytes found.items) }
+    ensures fault { IsErrOf result LineError.BadLine → (others : List (List ℕ))
+        → IsLine line.now others → ⊥ }
 {
     let mut reader = Reader::new(alloc);
     for byte in line {
