@@ -136,5 +136,5 @@ fn draft(alloc: Global, of: &PlanOf, told: Option<Aggregate>) -> Result<Draft, A
 
 /// The plan, with what is told of partners or of a group, if anything.
 pub fn plan(alloc: Global, of: &PlanOf, told: Option<Aggregate>) -> Result<Plan, Fail> {
-    Ok(Plan::checked(draft(alloc, of, told)?).ok_or("no plan")?)
+    Ok(Plan::check(draft(alloc, of, told)?).ok_or("no plan")?)
 }

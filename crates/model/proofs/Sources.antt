@@ -1,7 +1,7 @@
 -- Base shards found by their tables, and sources by their sides.
 use Rattle.std.proofs.Common.{◌≡◌, ℕ, ◌+◌, ◌-◌, ◌<◌, ◌≤◌, length, refl, ap, sym, subst, ◌∙◌, arith, Option, Some, None}
 use Rattle.plan.specs.Layouts.{SideLayout, Layout, no_table, table_at}
-use Rattle.plan.specs.Profile.{IfThere, IsTable, IsRight, IsPlan}
+use Rattle.plan.specs.Facts.{IfThere, IsTable, IsSide, Facts}
 use Rattle.model.specs.Places.{shards_before, base_count, base_at, table_of, shard_of, side_count, sources, source_at}
 use Rattle.model.proofs.PlaceLaws.{IsPlaced, placed, base_table, base_shard, base_range, source_right, source_count, source_count_left}
 use Rattle.model.proofs.Lists.{each_at}
@@ -34,17 +34,17 @@ not_found p b none lt =
     none (table_of p b) at.table (record { least = omega (arith, at.number); most = omega (arith, at.number, at.shard) })
 
 -- no table has more than 8 shards
-pub few_shards : (p : Layout) (t : ℕ) → IsPlan p → t < length p.tables → (table_at p t).shards ≤ 8
+pub few_shards : (p : Layout) (t : ℕ) → Facts p → t < length p.tables → (table_at p t).shards ≤ 8
 few_shards p t plan lt = (each_at IsTable p.tables t no_table plan.tables lt).shards.most_of
 
-few_sides : (p : Layout) (o : Option SideLayout) → IsPlan p → p.right ≡ o → length (sources p) ≤ 16
+few_sides : (p : Layout) (o : Option SideLayout) → Facts p → p.right ≡ o → length (sources p) ≤ 16
 few_sides p None plan is = omega (arith, source_count_left p is, few_shards p p.left.table plan plan.left.table)
 few_sides p (Some side) plan is =
-    let right = subst (λ (o : Option SideLayout). IfThere o (IsRight p)) is plan.right in
-    omega (arith, source_count p side is, few_shards p p.left.table plan plan.left.table, few_shards p side.table plan right.side.table)
+    let right = subst (λ (o : Option SideLayout). IfThere o (IsSide p)) is plan.right in
+    omega (arith, source_count p side is, few_shards p p.left.table plan plan.left.table, few_shards p side.table plan right.table)
 
 -- no stage has more than 16 sources
-pub few_sources : (p : Layout) → IsPlan p → length (sources p) ≤ 16
+pub few_sources : (p : Layout) → Facts p → length (sources p) ≤ 16
 few_sources p plan = few_sides p p.right plan refl
 
 -- a source past those of the left side is of the right side

@@ -5,7 +5,7 @@ use Rattle.std.proofs.lemmas.Bool.Decides.{nat_tests}
 use Rattle.std.proofs.lemmas.List.FromFn.{length-range_with_len, get_or-range_with_len}
 use Rattle.row.specs.Bags.{Each}
 use Rattle.plan.specs.Layouts.{TableLayout, SideLayout, Layout, table_at}
-use Rattle.plan.specs.Profile.{IfThere, IsRight, IsPlan}
+use Rattle.plan.specs.Facts.{IfThere, IsSide, Facts}
 use Rattle.model.specs.Logs.{fits}
 use Rattle.model.specs.Places.{base_at, layout_of, side_count, side_bases, right_bases, sources}
 use Rattle.model.specs.Queries.{Line}
@@ -61,7 +61,7 @@ drop_line h (x ∷ xs) ys ns zero is = absurd (omega arith)
 drop_line h (x ∷ xs) ys [] (suc k) is = sym (drop_none h ys)
 drop_line h (x ∷ xs) ys (n ∷ ns) (suc k) is = drop_line h xs ys ns k (omega arith)
 
-module _ (p : Layout) (n : ℕ) (h : List Item) (plan : IsPlan p) (legal : IsLegal p n h) where
+module _ (p : Layout) (n : ℕ) (h : List Item) (plan : Facts p) (legal : IsLegal p n h) where
   side_fits : (side : SideLayout) → side.table < length p.tables → Each (λ b. fits_log (table_at p side.table) h b ≡ true) (side_bases p side)
   side_fits side lt = each_of (λ b. fits_log (table_at p side.table) h b ≡ true) 0 (side_bases p side) (λ i li.
       let small : i < side_count p side = omega (arith, length-range_with_len (base_at p side.table 0) (side_count p side), li) in
@@ -70,9 +70,9 @@ module _ (p : Layout) (n : ℕ) (h : List Item) (plan : IsPlan p) (legal : IsLeg
       let own = subst (λ (t : TableLayout). fits_log t h (base_at p side.table i) ≡ true) (base_layout p side.table i lt small) fit in
       subst (λ (b : ℕ). fits_log (table_at p side.table) h b ≡ true) (sym at) own)
 
-  right_fits : (o : Option SideLayout) (ns : List ℕ) → IfThere o (IsRight p) → right_fit p o (line_of h (right_bases p o) ns) ≡ true
+  right_fits : (o : Option SideLayout) (ns : List ℕ) → IfThere o (IsSide p) → right_fit p o (line_of h (right_bases p o) ns) ≡ true
   right_fits None ns there = refl
-  right_fits (Some side) ns there = line_fits (table_at p side.table) h (side_bases p side) ns (side_fits side there.side.table)
+  right_fits (Some side) ns there = line_fits (table_at p side.table) h (side_bases p side) ns (side_fits side there.table)
 
   line_is : (ns : List ℕ) → is_line p (line_of h (sources p) ns) ≡ true
   line_is ns =

@@ -1,8 +1,8 @@
 pub mod Loops
-pub mod Decides
+pub mod Both
+pub mod Facts
 pub mod RowLoops
 pub mod OutputLaws
 pub mod KeyOutputs
 pub mod Ranges
-pub mod Known
 pub mod OwnTexts

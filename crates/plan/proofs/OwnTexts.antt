@@ -10,13 +10,13 @@ use Rattle.std.proofs.lemmas.Slice.Eq.{bytes_eq-Decides}
 use Rattle.std.specs.declared.alloc.AllocError.{AllocError}
 use Rattle.row.specs.Bags.{Each}
 use Rattle.plan.specs.Layouts.{TableLayout, SideLayout, ViewLayout, Layout, table_at, view_at, no_table, no_view}
-use Rattle.plan.specs.Profile.{AreApart, IfThere, IsTable, IsRight, IsView, IsPlan, is_letter, is_name_byte, is_name, is_domain_name}
+use Rattle.plan.specs.Profile.{is_letter, is_name_byte, is_name, is_new, are_apart, view_names}
+use Rattle.plan.specs.Facts.{IfThere, IsOwnName, IsTable, IsSide, IsView, Facts}
 use Rattle.plan.specs.Domains.{bases_of, right_bases, sources, stage_shards, shards_of_view, view_shards, edges_from, pairs, edges, numbered, domain_text, edge_text, shards_of_table, base_shards, domains, named_among, domain_named, edge_among, edge_named}
 use Rattle.plan.specs.declared.domain.DomainId.{DomainId}
 use Rattle.plan.specs.declared.domain.DomainId.TheVariants as domain
 use Rattle.plan.specs.declared.domain.Edge.{Edge}
-use Rattle.plan.specs.Tested.{is_new}
-use Rattle.plan.proofs.Decides.{and_left, and_right, and_both, each_join, new_of, apart_of, apart_tables, apart_views, apart_both}
+use Rattle.plan.proofs.Both.{and_left, and_right, and_both}
 
 text_same : (xs ys : List ℕ) → xs ≡ ys → bytes_eq xs ys ≡ true
 text_same xs ys h = (bytes_eq-Decides xs ys).1 h
@@ -25,6 +25,10 @@ same_text : (xs ys : List ℕ) → bytes_eq xs ys ≡ true → xs ≡ ys
 same_text xs ys h = (bytes_eq-Decides xs ys).0 h
 
 -- ---- lists of which each element has a property
+each_join : {X : Type 0} (P : X → Type 0) (xs ys : List X) → Each P xs → Each P ys → Each P (xs ++ ys)
+each_join P [] ys h k = k
+each_join P (x ∷ xs) ys h k = (h.0, each_join P xs ys h.1 k)
+
 range_each : {X : Type 0} (P : X → Type 0) (f : ℕ → X) (a k : ℕ) → ((n : ℕ) → n < a + k → P (f n)) → Each P (map f (range_with_len a k))
 range_each P f a zero h = tt
 range_each P f a (suc k) h = (h a (omega arith), range_each P f (a + 1) k (λ n lt. h n (omega arith)))
@@ -82,12 +86,12 @@ of_views p = flat_each (λ v. v < 0 + length p.views) (HasDomain p) (shards_of_v
 all_domains : (p : Layout) → Each (HasDomain p) (domains p)
 all_domains p = each_join (HasDomain p) (base_shards p ++ stage_shards p) (view_shards p) (each_join (HasDomain p) (base_shards p) (stage_shards p) (of_tables p) (of_stage p)) (of_views p)
 
-of_sources : (p : Layout) → IsPlan p → Each (HasDomain p) (sources p)
+of_sources : (p : Layout) → Facts p → Each (HasDomain p) (sources p)
 of_sources p h = each_join (HasDomain p) (bases_of p p.left) (right_bases p p.right) (table_domains p p.left.table h.left.table) (right_ones p.right h.right)
   where
-    right_ones : (r : Option SideLayout) → IfThere r (IsRight p) → Each (HasDomain p) (right_bases p r)
+    right_ones : (r : Option SideLayout) → IfThere r (IsSide p) → Each (HasDomain p) (right_bases p r)
     right_ones None k = tt
-    right_ones (Some s) k = table_domains p s.table k.side.table
+    right_ones (Some s) k = table_domains p s.table k.table
 
 abbrev edge_of : DomainId → DomainId → Edge
 edge_of a b = record { from = a; to = b }
@@ -99,7 +103,7 @@ HasEnds p e = HasDomain p e.from × HasDomain p e.to
 pairs_each : (p : Layout) (xs ys : List DomainId) → Each (HasDomain p) xs → Each (HasDomain p) ys → Each (HasEnds p) (pairs xs ys)
 pairs_each p xs ys hx hy = flat_each (HasDomain p) (HasEnds p) (λ x. edges_from x ys) (λ x hx. map_each (HasDomain p) (HasEnds p) (λ y. record { from = x; to = y }) (λ y hy. (hx, hy)) ys hy) xs hx
 
-all_edges : (p : Layout) → IsPlan p → Each (HasEnds p) (edges p)
+all_edges : (p : Layout) → Facts p → Each (HasEnds p) (edges p)
 all_edges p h =
     let a = of_sources p h in
     let b = of_stage p in
@@ -147,62 +151,54 @@ numbered_same xs ys n m hx hy small few e =
     (parts.0, digit_same n m small few parts.1)
 
 -- ---- names that are apart
-apart_ahead : {X : Type 0} (name : X → List ℕ) (t : List ℕ) (xs : List X) (i : ℕ) (none : X) → i < length xs → Each (λ y. bytes_eq t y ≡ false) (map name xs) → t ≡ name (slice_index_or xs i none) → ⊥
+apart_ahead : {X : Type 0} (name : X → List ℕ) (t : List ℕ) (xs : List X) (i : ℕ) (none : X) → i < length xs → is_new t (map name xs) ≡ true → t ≡ name (slice_index_or xs i none) → ⊥
 apart_ahead name t [] i none lt all e = absurd (omega arith)
-apart_ahead name t (x ∷ xs) zero none lt all e = cc (all.0, text_same t (name x) e)
-apart_ahead name t (x ∷ xs) (suc i) none lt all e = apart_ahead name t xs i none (omega arith) all.1 e
+apart_ahead name t (x ∷ xs) zero none lt all e =
+    let k : not (bytes_eq t (name x)) ≡ true = and_left _ (is_new t (map name xs)) all in
+    cc (k, ap not (text_same t (name x) e))
+apart_ahead name t (x ∷ xs) (suc i) none lt all e = apart_ahead name t xs i none (omega arith) (and_right (not (bytes_eq t (name x))) _ all) e
 
-apart_same : {X : Type 0} (name : X → List ℕ) (xs : List X) (i j : ℕ) (none : X) → i < length xs → j < length xs → AreApart (map name xs) → name (slice_index_or xs i none) ≡ name (slice_index_or xs j none) → i ≡ j
+apart_same : {X : Type 0} (name : X → List ℕ) (xs : List X) (i j : ℕ) (none : X) → i < length xs → j < length xs → are_apart (map name xs) ≡ true → name (slice_index_or xs i none) ≡ name (slice_index_or xs j none) → i ≡ j
 apart_same name [] i j none lt less all e = absurd (omega arith)
 apart_same name (x ∷ xs) zero zero none lt less all e = refl
-apart_same name (x ∷ xs) zero (suc j) none lt less all e = absurd (apart_ahead name (name x) xs j none (omega arith) all.0 e)
-apart_same name (x ∷ xs) (suc i) zero none lt less all e = absurd (apart_ahead name (name x) xs i none (omega arith) all.0 (sym e))
-apart_same name (x ∷ xs) (suc i) (suc j) none lt less all e = ap suc (apart_same name xs i j none (omega arith) (omega arith) all.1 e)
+apart_same name (x ∷ xs) zero (suc j) none lt less all e = absurd (apart_ahead name (name x) xs j none (omega arith) (and_left (is_new (name x) (map name xs)) _ all) e)
+apart_same name (x ∷ xs) (suc i) zero none lt less all e = absurd (apart_ahead name (name x) xs i none (omega arith) (and_left (is_new (name x) (map name xs)) _ all) (sym e))
+apart_same name (x ∷ xs) (suc i) (suc j) none lt less all e = ap suc (apart_same name xs i j none (omega arith) (omega arith) (and_right (is_new (name x) (map name xs)) _ all) e)
 
 -- ---- a domain has one text, and a text one domain
-table_name : (p : Layout) → IsPlan p → (t : ℕ) → t < length p.tables → is_domain_name (table_at p t).name ≡ true
-table_name p h t lt =
-    and_left _ _ (all_at (λ (t : TableLayout). is_domain_name t.name && list_all (λ c. is_name c.name) t.columns) p.tables t no_table lt (and_left _ _ h.named))
+table_name : (p : Layout) → Facts p → (t : ℕ) → t < length p.tables → IsOwnName (table_at p t).name
+table_name p h t lt = (each_at IsTable p.tables t no_table lt h.tables).name
 
-view_name : (p : Layout) → IsPlan p → (v : ℕ) → v < length p.views → is_domain_name (view_at p v).name ≡ true
-view_name p h v lt = all_at (λ (v : ViewLayout). is_domain_name v.name) p.views v no_view lt (and_right _ _ h.named)
+view_name : (p : Layout) → Facts p → (v : ℕ) → v < length p.views → IsOwnName (view_at p v).name
+view_name p h v lt = (each_at (IsView p) p.views v no_view lt h.views).name
 
-name_bytes : (name : List ℕ) → is_domain_name name ≡ true → list_all is_name_byte name ≡ true
-name_bytes name h = are_bytes name (and_left (is_name name) _ h)
+name_bytes : (name : List ℕ) → IsOwnName name → list_all is_name_byte name ≡ true
+name_bytes name h = are_bytes name h.form
 
-not_stage : (name : List ℕ) → is_domain_name name ≡ true → name ≡ codes "stage" → ⊥
-not_stage name h e =
-    let k : not (bytes_eq name (codes "stage")) ≡ true = and_right (is_name name) _ h in
-    cc (k, ap not (text_same name (codes "stage") e))
+not_stage : (name : List ℕ) → IsOwnName name → name ≡ codes "stage" → ⊥
+not_stage name h e = let k : not (bytes_eq name (codes "stage")) ≡ true = h.other in cc (k, ap not (text_same name (codes "stage") e))
 
-few_table : (p : Layout) → IsPlan p → (t n : ℕ) → t < length p.tables → n < (table_at p t).shards → n < 10
+few_table : (p : Layout) → Facts p → (t n : ℕ) → t < length p.tables → n < (table_at p t).shards → n < 10
 few_table p h t n lt small = let k = (each_at IsTable p.tables t no_table lt h.tables).shards.most_of in omega arith
 
-few_view : (p : Layout) → IsPlan p → (v n : ℕ) → v < length p.views → n < (view_at p v).shards → n < 10
+few_view : (p : Layout) → Facts p → (v n : ℕ) → v < length p.views → n < (view_at p v).shards → n < 10
 few_view p h v n lt small = let k = (each_at (IsView p) p.views v no_view lt h.views).shards.most_of in omega arith
 
-few_stage : (p : Layout) → IsPlan p → (n : ℕ) → n < p.stages → n < 10
+few_stage : (p : Layout) → Facts p → (n : ℕ) → n < p.stages → n < 10
 few_stage p h n small = let k = h.stages.most_of in omega arith
 
 stage_bytes : list_all is_name_byte (codes "stage") ≡ true
 stage_bytes = refl
 
-table_names : (p : Layout) → IsPlan p → AreApart (map (λ (t : TableLayout). t.name) p.tables)
-table_names p h = apart_of _ (apart_tables p.tables _ h.apart)
-
-view_names : (p : Layout) → IsPlan p → AreApart (map (λ (v : ViewLayout). v.name) p.views)
-view_names p h = apart_of _ (apart_views p.tables _ h.apart)
-
-no_table_view : (p : Layout) → IsPlan p → (t v : ℕ) → t < length p.tables → v < length p.views → (table_at p t).name ≡ (view_at p v).name → ⊥
+no_table_view : (p : Layout) → Facts p → (t v : ℕ) → t < length p.tables → v < length p.views → (table_at p t).name ≡ (view_at p v).name → ⊥
 no_table_view p h t v lt less e =
-    let names = map (λ (v : ViewLayout). v.name) p.views in
-    let new : is_new (table_at p t).name names ≡ true = all_at (λ (t : TableLayout). is_new t.name names) p.tables t no_table lt (apart_both p.tables names h.apart) in
-    apart_ahead (λ (v : ViewLayout). v.name) (table_at p t).name p.views v no_view less (new_of (table_at p t).name names new) e
+    let new = all_at (λ (t : TableLayout). is_new t.name (view_names p.views)) p.tables t no_table lt h.both_apart in
+    apart_ahead (λ (v : ViewLayout). v.name) (table_at p t).name p.views v no_view less new e
 
-pub one_text : (p : Layout) → IsPlan p → (x y : DomainId) → HasDomain p x → HasDomain p y → domain_text p x ≡ domain_text p y → x ≡ y
+pub one_text : (p : Layout) → Facts p → (x y : DomainId) → HasDomain p x → HasDomain p y → domain_text p x ≡ domain_text p y → x ≡ y
 one_text p h (domain.Base t n) (domain.Base u m) hx hy e =
     let parts = numbered_same (table_at p t).name (table_at p u).name n m (name_bytes (table_at p t).name (table_name p h t hx.0)) (name_bytes (table_at p u).name (table_name p h u hy.0)) (few_table p h t n hx.0 hx.1) (few_table p h u m hy.0 hy.1) e in
-    rw (apart_same (λ (t : TableLayout). t.name) p.tables t u no_table hx.0 hy.0 (table_names p h) parts.0, parts.1) refl
+    rw (apart_same (λ (t : TableLayout). t.name) p.tables t u no_table hx.0 hy.0 h.tables_apart parts.0, parts.1) refl
 one_text p h (domain.Base t n) (domain.Stage m) hx hy e =
     let parts = numbered_same (table_at p t).name (codes "stage") n m (name_bytes (table_at p t).name (table_name p h t hx.0)) stage_bytes (few_table p h t n hx.0 hx.1) (few_stage p h m hy) e in
     absurd (not_stage (table_at p t).name (table_name p h t hx.0) parts.0)
@@ -226,7 +222,7 @@ one_text p h (domain.View w n) (domain.Stage m) hx hy e =
     absurd (not_stage (view_at p w).name (view_name p h w hx.0) parts.0)
 one_text p h (domain.View w n) (domain.View v m) hx hy e =
     let parts = numbered_same (view_at p w).name (view_at p v).name n m (name_bytes (view_at p w).name (view_name p h w hx.0)) (name_bytes (view_at p v).name (view_name p h v hy.0)) (few_view p h w n hx.0 hx.1) (few_view p h v m hy.0 hy.1) e in
-    rw (apart_same (λ (v : ViewLayout). v.name) p.views w v no_view hx.0 hy.0 (view_names p h) parts.0, parts.1) refl
+    rw (apart_same (λ (v : ViewLayout). v.name) p.views w v no_view hx.0 hy.0 h.views_apart parts.0, parts.1) refl
 
 -- ---- an edge has one text, and a text one edge
 abbrev is_domain_byte : ℕ → Bool
@@ -253,7 +249,7 @@ digit_bytes n small = rw (decimal_digit n small) (digit n small)
 numbered_bytes : (name : List ℕ) (n : ℕ) → list_all is_name_byte name ≡ true → n < 10 → list_all is_domain_byte (numbered name n) ≡ true
 numbered_bytes name n h small = all_join is_domain_byte name (codes "." ++ decimal n) (all_more name h) (digit_bytes n small)
 
-domain_bytes : (p : Layout) → IsPlan p → (x : DomainId) → HasDomain p x → list_all is_domain_byte (domain_text p x) ≡ true
+domain_bytes : (p : Layout) → Facts p → (x : DomainId) → HasDomain p x → list_all is_domain_byte (domain_text p x) ≡ true
 domain_bytes p h (domain.Base t n) hx = numbered_bytes (table_at p t).name n (name_bytes (table_at p t).name (table_name p h t hx.0)) (few_table p h t n hx.0 hx.1)
 domain_bytes p h (domain.Stage n) hx = numbered_bytes (codes "stage") n stage_bytes (few_stage p h n hx)
 domain_bytes p h (domain.View v n) hx = numbered_bytes (view_at p v).name n (name_bytes (view_at p v).name (view_name p h v hx.0)) (few_view p h v n hx.0 hx.1)
@@ -261,7 +257,7 @@ domain_bytes p h (domain.View v n) hx = numbered_bytes (view_at p v).name n (nam
 both_ends : (a b c d : DomainId) → a ≡ c → b ≡ d → edge_of a b ≡ edge_of c d
 both_ends a b c d h k = rw (h, k) refl
 
-pub one_edge_text : (p : Layout) → IsPlan p → (x y : Edge) → HasEnds p x → HasEnds p y → edge_text p x ≡ edge_text p y → x ≡ y
+pub one_edge_text : (p : Layout) → Facts p → (x y : Edge) → HasEnds p x → HasEnds p y → edge_text p x ≡ edge_text p y → x ≡ y
 one_edge_text p h x y hx hy e =
     let parts = before_mark is_domain_byte 62 refl (domain_text p x.from) (domain_text p y.from) (domain_text p x.to) (domain_text p y.to) (domain_bytes p h x.from hx.0) (domain_bytes p h y.from hy.0) e in
     let froms : x.from ≡ y.from = one_text p h x.from y.from hx.0 hy.0 parts.0 in
@@ -307,7 +303,7 @@ there_found {X} of bs P single (y ∷ ys) x k lt is hx all e = step (bytes_eq (o
     step false same rest = let r = later k lt is same in rest r.0 r.1 r.2
 
 -- ---- the laws
-pub domain_law : (p : Layout) → IsPlan p → (bs : List ℕ) (x : DomainId) → (domain_named p bs ≡ Some x) ↔ (Contains (domains p) x × (domain_text p x ≡ bs))
+pub domain_law : (p : Layout) → Facts p → (bs : List ℕ) (x : DomainId) → (domain_named p bs ≡ Some x) ↔ (Contains (domains p) x × (domain_text p x ≡ bs))
 domain_law p h bs x = (there, found)
   where
     there : domain_named p bs ≡ Some x → Contains (domains p) x × (domain_text p x ≡ bs)
@@ -318,7 +314,7 @@ domain_law p h bs x = (there, found)
         let has : HasDomain p x = each_there (HasDomain p) (domains p) x r.0.0 r.0.1 r.0.2 (all_domains p) in
         named_first p bs (domains p) ∙ there_found (domain_text p) bs (HasDomain p) (one_text p h) (domains p) x r.0.0 r.0.1 r.0.2 has (all_domains p) r.1
 
-pub edge_law : (p : Layout) → IsPlan p → (bs : List ℕ) (x : Edge) → (edge_named p bs ≡ Some x) ↔ (Contains (edges p) x × (edge_text p x ≡ bs))
+pub edge_law : (p : Layout) → Facts p → (bs : List ℕ) (x : Edge) → (edge_named p bs ≡ Some x) ↔ (Contains (edges p) x × (edge_text p x ≡ bs))
 edge_law p h bs x = (there, found)
   where
     there : edge_named p bs ≡ Some x → Contains (edges p) x × (edge_text p x ≡ bs)
@@ -330,10 +326,10 @@ edge_law p h bs x = (there, found)
         edge_first p bs (edges p) ∙ there_found (edge_text p) bs (HasEnds p) (one_edge_text p h) (edges p) x r.0.0 r.0.1 r.0.2 has (all_edges p h) r.1
 
 -- of an answer that may be want of memory
-pub domain_answer : (p : Layout) → IsPlan p → (bs : List ℕ) (r : Result (Option DomainId) AllocError) → IfOk r (λ d. d ≡ domain_named p bs) → IfOk r (λ d. (x : DomainId) → (d ≡ Some x) ↔ (Contains (domains p) x × (domain_text p x ≡ bs)))
+pub domain_answer : (p : Layout) → Facts p → (bs : List ℕ) (r : Result (Option DomainId) AllocError) → IfOk r (λ d. d ≡ domain_named p bs) → IfOk r (λ d. (x : DomainId) → (d ≡ Some x) ↔ (Contains (domains p) x × (domain_text p x ≡ bs)))
 domain_answer p h bs (Ok d) e = λ x. rw (e) (domain_law p h bs x)
 domain_answer p h bs (Err a) e = tt
 
-pub edge_answer : (p : Layout) → IsPlan p → (bs : List ℕ) (r : Result (Option Edge) AllocError) → IfOk r (λ d. d ≡ edge_named p bs) → IfOk r (λ d. (x : Edge) → (d ≡ Some x) ↔ (Contains (edges p) x × (edge_text p x ≡ bs)))
+pub edge_answer : (p : Layout) → Facts p → (bs : List ℕ) (r : Result (Option Edge) AllocError) → IfOk r (λ d. d ≡ edge_named p bs) → IfOk r (λ d. (x : Edge) → (d ≡ Some x) ↔ (Contains (edges p) x × (edge_text p x ≡ bs)))
 edge_answer p h bs (Ok d) e = λ x. rw (e) (edge_law p h bs x)
 edge_answer p h bs (Err a) e = tt

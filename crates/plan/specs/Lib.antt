@@ -2,7 +2,6 @@ pub mod Layouts
 pub mod Kinds
 pub mod Outputs
 pub mod Profile
-pub mod Tested
+pub mod Facts
 pub mod Recipes
 pub mod Domains
-pub mod Passes

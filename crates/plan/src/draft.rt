@@ -1,8 +1,7 @@
 //! Drafts: the parts of a plan, before it is known whether they make one.
-ghost use Rattle.std.specs.Prelude.{◌≡◌, ◌&&◌, map, slice_index_or, length};
-ghost use Rattle.std.specs.List.{list_all};
-ghost use Rattle.plan.specs.Layouts.{TableLayout, ViewLayout, kind_at, no_table};
-ghost use Rattle.plan.specs.Tested.{is_new, are_apart, is_one_kind, is_aggregate, is_key_of, told_table, has_names};
+ghost use Rattle.std.specs.Prelude.{◌≡◌};
+ghost use Rattle.plan.specs.Layouts.{kind_at, table_at};
+ghost use Rattle.plan.specs.Profile.{is_new, are_apart, is_one_kind, told, told_table, width_at, table_names, view_names, both_apart, has_view_names, has_names, is_key_of, is_aggregate};
 
 use crate::kinds::{Aggregate, Kind};
 use crate::plan::ViewPlan;
@@ -34,7 +33,7 @@ impl Model for Draft {
 impl Draft {
     /// The kind of the column, if there are the table and the column.
     pub(crate) fn kind(&self, table: usize, column: usize) -> Option<Kind>
-        ensures { result ≡ kind_at (slice_index_or self.now.tables table no_table) column }
+        ensures { result ≡ kind_at (table_at self.now table) column }
     {
         match self.tables.get(table) {
             Some(table) => table.kind(column),
@@ -44,7 +43,7 @@ impl Draft {
 
     /// Whether what is summed, if anything, is a column of numbers.
     pub fn has_aggregate(&self) -> bool
-        ensures { result ≡ is_aggregate (slice_index_or self.now.tables (told_table self.now.left self.now.right) no_table) self.now.aggregate }
+        ensures { result ≡ is_aggregate (told self.now) self.now.aggregate }
     {
         match self.aggregate {
             None | Some(Aggregate::Count) => true,
@@ -66,7 +65,7 @@ impl Draft {
 
     /// How many columns the left table has, if it is there.
     pub fn left_width(&self) -> usize
-        ensures { result ≡ length (slice_index_or self.now.tables self.now.left.table no_table).columns }
+        ensures { result ≡ width_at self.now self.now.left.table }
     {
         match self.tables.get(self.left.table()) {
             Some(table) => table.width(),
@@ -81,6 +80,7 @@ impl Draft {
         self.right.is_some() || self.aggregate.is_none() || column == self.left.key()
     }
 
+    /// Whether no two tables or views have one name.
     pub(crate) fn has_names(&self) -> bool
         ensures { result ≡ has_names self.now }
     {
@@ -88,7 +88,7 @@ impl Draft {
     }
 
     fn has_view_names(&self) -> bool
-        ensures { result ≡ (are_apart (map (λ (v : ViewLayout). v.name) self.now.views) && list_all (λ (t : TableLayout). is_new t.name (map (λ (v : ViewLayout). v.name) self.now.views)) self.now.tables) }
+        ensures { result ≡ has_view_names self.now }
     {
         views_apart(&self.views) && both_apart(&self.tables, &self.views)
     }
@@ -106,7 +106,7 @@ pub(crate) fn is_one_kind(a: Option<Kind>, b: Option<Kind>) -> bool
 
 /// Whether no two tables have one name.
 fn tables_apart(tables: &[Table]) -> bool
-    ensures { result ≡ are_apart (map (λ (t : TableLayout). t.name) tables.now) }
+    ensures { result ≡ are_apart (table_names tables.now) }
 {
     for (at, table) in tables.iter().enumerate() {
         if !is_new_table(table.name(), &tables[at + 1..]) {
@@ -118,7 +118,7 @@ fn tables_apart(tables: &[Table]) -> bool
 
 /// Whether no table has the name.
 pub(crate) fn is_new_table(name: &str, tables: &[Table]) -> bool
-    ensures { result ≡ is_new name.now (map (λ (t : TableLayout). t.name) tables.now) }
+    ensures { result ≡ is_new name.now (table_names tables.now) }
 {
     for table in tables {
         if name == table.name() {
@@ -130,7 +130,7 @@ pub(crate) fn is_new_table(name: &str, tables: &[Table]) -> bool
 
 /// Whether no two views have one name.
 fn views_apart(views: &[ViewPlan]) -> bool
-    ensures { result ≡ are_apart (map (λ (v : ViewLayout). v.name) views.now) }
+    ensures { result ≡ are_apart (view_names views.now) }
 {
     for (at, view) in views.iter().enumerate() {
         if !is_new_view(view.name(), &views[at + 1..]) {
@@ -142,7 +142,7 @@ fn views_apart(views: &[ViewPlan]) -> bool
 
 /// Whether no view has the name.
 pub(crate) fn is_new_view(name: &str, views: &[ViewPlan]) -> bool
-    ensures { result ≡ is_new name.now (map (λ (v : ViewLayout). v.name) views.now) }
+    ensures { result ≡ is_new name.now (view_names views.now) }
 {
     for view in views {
         if name == view.name() {
@@ -154,7 +154,7 @@ pub(crate) fn is_new_view(name: &str, views: &[ViewPlan]) -> bool
 
 /// Whether no view has the name of a table.
 fn both_apart(tables: &[Table], views: &[ViewPlan]) -> bool
-    ensures { result ≡ list_all (λ (t : TableLayout). is_new t.name (map (λ (v : ViewLayout). v.name) views.now)) tables.now }
+    ensures { result ≡ both_apart tables.now views.now }
 {
     tables.iter().all(|table| is_new_view(table.name(), views))
 }

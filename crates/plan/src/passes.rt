@@ -1,9 +1,9 @@
 //! The checks that a draft goes through, one after the other, before it is a plan.
-ghost use Rattle.std.specs.Prelude.{◌≡◌, ◌&&◌, length, nat_lt};
+ghost use Rattle.std.specs.Prelude.{◌≡◌};
 ghost use Rattle.std.specs.List.{list_all};
-ghost use Rattle.plan.specs.Layouts.{TableLayout, ViewLayout};
-ghost use Rattle.plan.specs.Passes.{is_unrefused, keeps_limits, view_is_small, side_is_small, table_is_small, if_there, columns_are_apart, is_not_stage, has_own_names, width_at, side_is_known, sum_is_known, right_width, both_widths, has_known_places, has_single_paths, has_left_keys, sides_agree, values_agree, has_one_kind};
-ghost use Rattle.plan.specs.Tested.{is_from, told_table};
+ghost use Rattle.std.specs.Option.{is_none};
+ghost use Rattle.plan.specs.Layouts.{ViewLayout};
+ghost use Rattle.plan.specs.Profile.{if_there, width_at, table_is_small, side_is_small, view_is_small, tables_are_small, stage_is_small, views_are_small, keeps_limits, is_not_stage, table_is_apart, has_own_names, key_is_known, side_is_known, sides_are_known, sum_is_known, right_width, has_column, view_keys_are_known, has_known_places, has_single_paths, has_left_keys, sides_agree, side_agrees, values_agree, has_one_kind, refusal};
 
 use crate::draft::{Draft, is_one_kind};
 use crate::kinds::Aggregate;
@@ -15,7 +15,7 @@ use crate::table::{Table, is_from};
 impl Draft {
     /// Whether no check refuses the draft.
     pub(crate) fn is_plan(&self) -> bool
-        ensures { result ≡ is_unrefused self.now }
+        ensures { result ≡ is_none (refusal self.now) }
     {
         self.keeps_limits()
             && self.has_own_names()
@@ -34,7 +34,7 @@ impl Draft {
     }
 
     fn tables_are_small(&self) -> bool
-        ensures { result ≡ (is_from 1 8 (length self.now.tables) && list_all table_is_small self.now.tables) }
+        ensures { result ≡ tables_are_small self.now }
     {
         is_from(1, 8, self.tables.len()) && self.each_table_is_small()
     }
@@ -46,7 +46,7 @@ impl Draft {
     }
 
     fn stage_is_small(&self) -> bool
-        ensures { result ≡ (is_from 1 8 self.now.stages && (is_from 1 65536 self.now.cap && (side_is_small self.now.left && if_there side_is_small self.now.right))) }
+        ensures { result ≡ stage_is_small self.now }
     {
         is_from(1, 8, self.stages)
             && is_from(1, 65536, self.cap)
@@ -54,6 +54,7 @@ impl Draft {
             && self.right_is_small()
     }
 
+    /// Whether the right side, if there is one, has few conditions, with values that cells can be.
     pub fn right_is_small(&self) -> bool
         ensures { result ≡ if_there side_is_small self.now.right }
     {
@@ -64,7 +65,7 @@ impl Draft {
     }
 
     fn views_are_small(&self) -> bool
-        ensures { result ≡ (is_from 1 4 (length self.now.views) && list_all view_is_small self.now.views) }
+        ensures { result ≡ views_are_small self.now }
     {
         is_from(1, 4, self.views.len()) && self.each_view_is_small()
     }
@@ -75,8 +76,8 @@ impl Draft {
         self.views.iter().all(|view| view.is_small())
     }
 
-    /// Whether no two tables or views have one name, no two columns of a table have one, and no table
-    /// or view is named `stage`. Takes no memory. Cost: a look at each pair of names.
+    /// Whether no two tables or views have one name, no two columns of a table have one, and no
+    /// table or view is named `stage`. Takes no memory. Cost: a look at each pair of names.
     pub fn has_own_names(&self) -> bool
         ensures { result ≡ has_own_names self.now }
     {
@@ -84,7 +85,7 @@ impl Draft {
     }
 
     fn tables_are_apart(&self) -> bool
-        ensures { result ≡ list_all (λ (t : TableLayout). is_not_stage t.name && columns_are_apart t) self.now.tables }
+        ensures { result ≡ list_all table_is_apart self.now.tables }
     {
         self.tables.iter().all(|table| is_not_stage(table.name()) && table.columns_are_apart())
     }
@@ -107,13 +108,13 @@ impl Draft {
     }
 
     fn keys_are_known(&self) -> bool
-        ensures { result ≡ list_all (λ (t : TableLayout). nat_lt t.key (length t.columns)) self.now.tables }
+        ensures { result ≡ list_all key_is_known self.now.tables }
     {
         self.tables.iter().all(|table| table.key() < table.width())
     }
 
     fn sides_are_known(&self) -> bool
-        ensures { result ≡ (side_is_known self.now self.now.left && if_there (side_is_known self.now) self.now.right) }
+        ensures { result ≡ sides_are_known self.now }
     {
         self.side_is_known(&self.left) && self.right_is_known()
     }
@@ -127,14 +128,16 @@ impl Draft {
         }
     }
 
+    /// Whether the side's table is there, and the columns that it names.
     pub fn side_is_known(&self, side: &Side) -> bool
         ensures { result ≡ side_is_known self.now side.now }
     {
         side.table() < self.tables.len() && side.is_within(self.width_at(side.table()))
     }
 
+    /// Whether the column that is summed, if any, is there.
     pub fn sum_is_known(&self) -> bool
-        ensures { result ≡ if_there (sum_is_known (width_at self.now (told_table self.now.left self.now.right))) self.now.aggregate }
+        ensures { result ≡ sum_is_known self.now }
     {
         match self.aggregate {
             None | Some(Aggregate::Count) => true,
@@ -143,14 +146,14 @@ impl Draft {
     }
 
     fn view_keys_are_known(&self) -> bool
-        ensures { result ≡ list_all (λ (v : ViewLayout). nat_lt v.key (both_widths self.now)) self.now.views }
+        ensures { result ≡ view_keys_are_known self.now }
     {
         self.views.iter().all(|view| self.has_column(view.key()))
     }
 
     /// Whether one of both sides has the column.
     pub fn has_column(&self, column: usize) -> bool
-        ensures { result ≡ nat_lt column (both_widths self.now) }
+        ensures { result ≡ has_column self.now column }
     {
         let left = self.left_width();
         column < left || column - left < self.right_width()
@@ -201,6 +204,7 @@ impl Draft {
         self.sides_agree() && self.has_aggregate() && self.values_agree()
     }
 
+    /// Whether both stage keys are of one kind.
     pub fn sides_agree(&self) -> bool
         ensures { result ≡ if_there (sides_agree self.now) self.now.right }
     {
@@ -214,13 +218,13 @@ impl Draft {
     }
 
     fn values_agree(&self) -> bool
-        ensures { result ≡ (values_agree self.now self.now.left && if_there (values_agree self.now) self.now.right) }
+        ensures { result ≡ values_agree self.now }
     {
         self.side_agrees(&self.left) && self.right_agrees()
     }
 
     fn right_agrees(&self) -> bool
-        ensures { result ≡ if_there (values_agree self.now) self.now.right }
+        ensures { result ≡ if_there (side_agrees self.now) self.now.right }
     {
         match &self.right {
             None => true,
@@ -228,8 +232,9 @@ impl Draft {
         }
     }
 
+    /// Whether each value that the side compares a cell with is of the column's kind.
     pub fn side_agrees(&self, side: &Side) -> bool
-        ensures { result ≡ values_agree self.now side.now }
+        ensures { result ≡ side_agrees self.now side.now }
     {
         match self.tables.get(side.table()) {
             Some(table) => side.conditions_fit(table),
@@ -245,6 +250,7 @@ fn is_not_stage(name: &str) -> bool
 }
 
 impl ViewPlan {
+    /// Whether the view has 1 to 8 shards, keeps 1 to 65536 keys, and its name is a name.
     pub fn is_small(&self) -> bool
         ensures { result ≡ view_is_small self.now }
     {

@@ -1,8 +1,8 @@
 //! A checked plan, which contracts see as its layout.
-ghost use Rattle.std.specs.Prelude.{◌≡◌, true, ◌<◌, ◌≤◌, IfOk, IfSome, MatchOption, length, string_bytes};
+ghost use Rattle.std.specs.Prelude.{◌≡◌, ◌<◌, ◌≤◌, IfOk, IfSome, MatchOption, length, string_bytes};
 ghost use Rattle.std.specs.Option.{option_copied};
 ghost use Rattle.plan.specs.Layouts.{table_at, table_named, view_at, view_named};
-ghost use Rattle.plan.specs.Passes.{is_unrefused};
+ghost use Rattle.plan.specs.Facts.{Facts};
 ghost use Rattle.plan.specs.Profile.{IsPlan};
 ghost use Rattle.plan.specs.Recipes.{notes_plan};
 
@@ -102,6 +102,7 @@ impl Model for Plan {
 impl Plan {
     /// The built-in plan: one table `notes(id int, author int, body text)` with key `id`, and one
     /// view `by_author` of its rows, keyed by `author`; one shard of each.
+    #[tactic(auto, unfolding(crate::specs::Profile::IsPlan))]
     pub fn built_in(alloc: Global) -> Result<Plan, AllocError>
         ensures { IfOk result (λ p. p ≡ notes_plan) }
     {
@@ -124,20 +125,20 @@ impl Plan {
         })
     }
 
-    /// The plan of these parts, or nothing where they do not keep the profile, each fact of which is
-    /// tested. Takes no memory. Cost: a look at each pair of names.
-    pub fn checked(draft: Draft) -> Option<Plan>
+    /// The plan of these parts, or nothing where one of the six checks refuses them. Takes no
+    /// memory. Cost: a look at each pair of names.
+    pub fn check(draft: Draft) -> Option<Plan>
         ensures { MatchOption result (IsPlan draft → ⊥) (λ p. (p ≡ draft) × IsPlan draft) }
     {
         if !draft.is_plan() {
             return None;
         }
-        Some(Plan::passed(draft))
+        Some(Plan::from_checked(draft))
     }
 
     /// The plan of a draft that no check refuses. Takes no memory.
-    pub fn passed(draft: Draft) -> Plan
-        requires { is_unrefused draft ≡ true }
+    pub fn from_checked(draft: Draft) -> Plan
+        requires { IsPlan draft }
         ensures { result ≡ draft }
     {
         let Draft {
@@ -160,9 +161,9 @@ impl Plan {
         }
     }
 
-    /// The plan is of the profile, which its type keeps. Does nothing: a caller learns it.
+    /// The plan is of the profile, which its type keeps. Does nothing: a caller learns its facts.
     pub fn keeps_profile(&self)
-        ensures { IsPlan self.now }
+        ensures { Facts self.now }
     {
         let _tables = &self.tables;
     }
@@ -180,6 +181,7 @@ impl Plan {
         ensures count { result ≡ length self.now.tables }
         ensures few { result ≤ 8 }
     {
+        self.keeps_profile();
         self.tables.len()
     }
 
@@ -190,6 +192,7 @@ impl Plan {
         ensures key { result.now.key < length result.now.columns }
         ensures shards { result.now.shards ≤ 8 }
     {
+        self.keeps_profile();
         &self.tables[table]
     }
 

@@ -4,8 +4,7 @@ ghost use Rattle.std.specs.List.{list_all};
 ghost use Rattle.row.specs.Cells.{datum_of};
 ghost use Rattle.plan.specs.Layouts.{ConditionLayout, no_table};
 ghost use Rattle.plan.specs.Outputs.{holds, pass};
-ghost use Rattle.plan.specs.Passes.{value_is_small, side_is_small};
-ghost use Rattle.plan.specs.Tested.{is_condition};
+ghost use Rattle.plan.specs.Profile.{value_is_small, values_are_small, side_is_small, columns_are_within, side_is_within, is_condition};
 
 use crate::kinds::{Op, is_plain};
 use crate::table::Table;
@@ -131,20 +130,20 @@ impl Side {
     }
 
     fn values_are_small(&self) -> bool
-        ensures { result ≡ list_all (λ (c : ConditionLayout). value_is_small c.value) self.now.conditions }
+        ensures { result ≡ values_are_small self.now.conditions }
     {
         self.conditions.iter().all(|condition| condition.is_small())
     }
 
     /// Whether the key and the columns of all conditions are among so many columns.
     pub(crate) fn is_within(&self, width: usize) -> bool
-        ensures { result ≡ (nat_lt self.now.key width && list_all (λ (c : ConditionLayout). nat_lt c.column width) self.now.conditions) }
+        ensures { result ≡ side_is_within width self.now }
     {
         width > self.key && self.columns_are_within(width)
     }
 
     fn columns_are_within(&self, width: usize) -> bool
-        ensures { result ≡ list_all (λ (c : ConditionLayout). nat_lt c.column width) self.now.conditions }
+        ensures { result ≡ columns_are_within width self.now.conditions }
     {
         self.conditions
             .iter()

@@ -5,9 +5,7 @@ ghost use Rattle.std.specs.List.{list_all};
 ghost use Rattle.row.specs.Cells.{datum_of};
 ghost use Rattle.plan.specs.Kinds.{is_cell, is_row};
 ghost use Rattle.plan.specs.Layouts.{ColumnLayout, column_at, kind_at};
-ghost use Rattle.plan.specs.Passes.{table_is_small, columns_are_apart};
-ghost use Rattle.plan.specs.Profile.{is_name};
-ghost use Rattle.plan.specs.Tested.{is_from, is_new, are_apart};
+ghost use Rattle.plan.specs.Profile.{is_from, is_name, is_new, are_apart, table_is_small, columns_are_apart};
 
 use crate::kinds::Kind;
 use crate::names::is_name;

@@ -4,7 +4,7 @@ use Rattle.std.specs.List.{before_first, after_first}
 use Rattle.std.specs.Option.{is_some, unwrap_or}
 use Rattle.row.specs.Cells.{int}
 use Rattle.plan.specs.Layouts.{ColumnLayout, TableLayout}
-use Rattle.plan.specs.Passes.{checks, first_refusal, refusal_unless}
+use Rattle.plan.specs.Profile.{checks, first_refusal, refusal_unless}
 use Rattle.plan.specs.declared.kinds.Kind.{Kind}
 use Rattle.plan.specs.declared.kinds.Kind.TheVariants as kind
 use Rattle.plan.specs.declared.kinds.Op.{Op}

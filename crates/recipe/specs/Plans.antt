@@ -3,7 +3,7 @@ use Rattle.std.specs.Prelude.{ℕ, List, ◌++◌, Option, Some, None, Result, O
 use Rattle.toml.specs.Data.{Data, Members, table}
 use Rattle.toml.specs.Parse.{parse_document}
 use Rattle.plan.specs.Layouts.{Layout}
-use Rattle.plan.specs.Passes.{checks, first_refusal, refusal}
+use Rattle.plan.specs.Profile.{checks, first_refusal, refusal}
 use Rattle.recipe.specs.Checks.{document_checks}
 use Rattle.recipe.specs.Drafts.{draft_said}
 

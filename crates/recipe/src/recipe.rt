@@ -64,6 +64,7 @@ fn plan_of_document(alloc: Global, document: &Value) -> Result<Plan, PlanError>
 /// The plan of a draft, or the refusal of the first check that fails: limits and names (26), names
 /// that are alike (27), unknown tables and columns (22), a double path (24), keys of views (25),
 /// kinds (23). Takes no memory.
+#[tactic(auto, unfolding(plan::specs::Profile::IsPlan))]
 pub fn judge(draft: Draft) -> Result<Plan, PlanError>
     ensures { Gives (λ p. p) result (judged draft) }
 {
@@ -85,5 +86,5 @@ pub fn judge(draft: Draft) -> Result<Plan, PlanError>
     if !draft.has_one_kind() {
         return Err(PlanError::TypeMismatch(kind_spot(&draft)));
     }
-    Ok(Plan::passed(draft))
+    Ok(Plan::from_checked(draft))
 }

@@ -1,6 +1,6 @@
 use Rattle.std.proofs.Common.{◌≡◌, map, drop}
 use Rattle.plan.specs.Layouts.{TableLayout}
-use Rattle.plan.specs.Tested.{is_new}
+use Rattle.plan.specs.Profile.{is_new}
 use Rattle.plan.proofs.draft.is_new_table.Given as goal
 
 abbrev pub invariant-loop-table : goal.invariant-loop-table

@@ -1,6 +1,6 @@
 use Rattle.std.proofs.Common.{◌≡◌, map, drop}
 use Rattle.plan.specs.Layouts.{ColumnLayout}
-use Rattle.plan.specs.Tested.{are_apart}
+use Rattle.plan.specs.Profile.{are_apart}
 use Rattle.plan.proofs.table.are_apart.Given as goal
 
 abbrev pub invariant-loop-at : goal.invariant-loop-at

@@ -1,6 +1,6 @@
 use Rattle.std.proofs.Common.{◌≡◌, map, drop}
 use Rattle.plan.specs.Layouts.{ColumnLayout}
-use Rattle.plan.specs.Tested.{is_new}
+use Rattle.plan.specs.Profile.{is_new}
 use Rattle.plan.proofs.table.is_new.Given as goal
 
 abbrev pub invariant-loop-column : goal.invariant-loop-column
