@@ -3,6 +3,7 @@ ghost use Rattle.std.specs.Prelude.{◌≡◌, ◌<◌, ◌≤◌, IfOk, IfSome,
 ghost use Rattle.std.specs.Option.{option_copied};
 ghost use Rattle.plan.specs.Layouts.{table_at, table_named, view_at, view_named};
 ghost use Rattle.plan.specs.Facts.{Facts};
+ghost use Rattle.plan.specs.Outputs.{key_place};
 ghost use Rattle.plan.specs.Profile.{IsPlan};
 ghost use Rattle.plan.specs.Recipes.{notes_plan};
 
@@ -283,5 +284,18 @@ impl Plan {
         ensures { result.now ≡ view_at self.now view }
     {
         &self.views[view]
+    }
+
+    /// The place in an output row of the column that keys the view: the first where the rows of each
+    /// key are counted or summed, and else the left column that keys it. Constant time.
+    pub fn key_place(&self, view: usize) -> usize
+        requires { view < length self.now.views }
+        ensures { result ≡ key_place self.now.right self.now.aggregate (view_at self.now view).key }
+    {
+        if self.right.is_none() && self.aggregate.is_some() {
+            0
+        } else {
+            self.view(view).key()
+        }
     }
 }

@@ -3,7 +3,7 @@ ghost use Rattle.std.specs.Prelude.{◌≡◌, ◌<◌, length, IfOk, IfSome, Is
 ghost use Rattle.row.specs.Cells.{datum_of};
 ghost use Rattle.model.specs.Histories.{view_shard};
 ghost use Rattle.plan.specs.Layouts.{view_at};
-ghost use Rattle.view.specs.Snapshots.{is_shown, key_column, rows_shown, zero_lengths};
+ghost use Rattle.view.specs.Snapshots.{is_shown, rows_shown, zero_lengths};
 
 use crate::delta::Delta;
 use crate::rule::Shot;
@@ -63,7 +63,7 @@ impl<J: Naming> Shown<J> {
             alloc,
             view,
             shard,
-            rows: Grouped::new(alloc, key_column(plan, view)),
+            rows: Grouped::new(alloc, plan.key_place(view)),
             cut: Cut::zeros(alloc, plan, part)?,
             asked: 0,
         })
@@ -133,17 +133,5 @@ impl<J: Naming> Absorb<Delta<J>> for Shown<J> {
         self.cut = after;
         self.asked = delta.asked;
         Ok(())
-    }
-}
-
-// The place of the view's key in an output row.
-fn key_column(plan: &Plan, view: usize) -> usize
-    requires view { view < length plan.now.views }
-    ensures { result ≡ key_column plan.now view }
-{
-    if plan.right().is_none() && plan.aggregate().is_some() {
-        0
-    } else {
-        plan.view(view).key()
     }
 }
