@@ -12,7 +12,7 @@ use Rattle.row.specs.Bags.{Each}
 use Rattle.plan.specs.Layouts.{TableLayout, SideLayout, ViewLayout, Layout, table_at, view_at, no_table, no_view}
 use Rattle.plan.specs.Profile.{is_letter, is_name_byte, is_name, is_new, are_apart, view_names}
 use Rattle.plan.specs.Facts.{IfThere, IsOwnName, IsTable, IsSide, IsView, Facts}
-use Rattle.plan.specs.Domains.{bases_of, right_bases, sources, stage_shards, shards_of_view, view_shards, edges_from, pairs, edges, numbered, domain_text, edge_text, shards_of_table, base_shards, domains, named_among, domain_named, edge_among, edge_named}
+use Rattle.plan.specs.Domains.{bases_of, right_bases, sources, stage_shards, shards_of_view, view_shards, edges_from, pairs, edges, numbered, domain_text, edge_text, shards_of_table, base_shards, domains, named_among, domain_named, edge_among, edge_named, IsDomainWith, IsEdgeWith}
 use Rattle.plan.specs.declared.domain.DomainId.{DomainId}
 use Rattle.plan.specs.declared.domain.DomainId.TheVariants as domain
 use Rattle.plan.specs.declared.domain.Edge.{Edge}
@@ -326,10 +326,10 @@ edge_law p h bs x = (there, found)
         edge_first p bs (edges p) ∙ there_found (edge_text p) bs (HasEnds p) (one_edge_text p h) (edges p) x r.0.0 r.0.1 r.0.2 has (all_edges p h) r.1
 
 -- of an answer that may be want of memory
-pub domain_answer : (p : Layout) → Facts p → (bs : List ℕ) (r : Result (Option DomainId) AllocError) → IfOk r (λ d. d ≡ domain_named p bs) → IfOk r (λ d. (x : DomainId) → (d ≡ Some x) ↔ (Contains (domains p) x × (domain_text p x ≡ bs)))
+pub domain_answer : (p : Layout) → Facts p → (bs : List ℕ) (r : Result (Option DomainId) AllocError) → IfOk r (λ d. d ≡ domain_named p bs) → IfOk r (IsDomainWith p bs)
 domain_answer p h bs (Ok d) e = λ x. rw (e) (domain_law p h bs x)
 domain_answer p h bs (Err a) e = tt
 
-pub edge_answer : (p : Layout) → Facts p → (bs : List ℕ) (r : Result (Option Edge) AllocError) → IfOk r (λ d. d ≡ edge_named p bs) → IfOk r (λ d. (x : Edge) → (d ≡ Some x) ↔ (Contains (edges p) x × (edge_text p x ≡ bs)))
+pub edge_answer : (p : Layout) → Facts p → (bs : List ℕ) (r : Result (Option Edge) AllocError) → IfOk r (λ d. d ≡ edge_named p bs) → IfOk r (IsEdgeWith p bs)
 edge_answer p h bs (Ok d) e = λ x. rw (e) (edge_law p h bs x)
 edge_answer p h bs (Err a) e = tt

@@ -1,5 +1,5 @@
 -- The domains of a plan, its tags, and the edges between domains in their order.
-use Rattle.std.specs.Prelude.{ℕ, List, [], ◌∷◌, ◌++◌, map, flat_map, length, Option, Some, None, cond, codes}
+use Rattle.std.specs.Prelude.{◌≡◌, ◌↔◌, Contains, ℕ, List, [], ◌∷◌, ◌++◌, map, flat_map, length, Option, Some, None, cond, codes}
 use Rattle.std.specs.Fmt.{decimal}
 use Rattle.std.specs.List.{range_with_len}
 use Rattle.std.specs.Str.{bytes_eq}
@@ -8,9 +8,16 @@ use Rattle.plan.specs.declared.domain.DomainId.{DomainId}
 use Rattle.plan.specs.declared.domain.DomainId.TheVariants as domain
 use Rattle.plan.specs.declared.domain.Edge.{Edge}
 
+-- so many shards of the table, or of the view, at a place
+abbrev pub bases : ℕ → ℕ → List DomainId
+bases t shards = map (λ n. domain.Base t n) (range_with_len 0 shards)
+
+abbrev pub views : ℕ → ℕ → List DomainId
+views i shards = map (λ n. domain.View i n) (range_with_len 0 shards)
+
 -- the shards of the side's table
 abbrev pub bases_of : Layout → SideLayout → List DomainId
-bases_of p s = map (λ n. domain.Base s.table n) (range_with_len 0 (table_at p s.table).shards)
+bases_of p s = bases s.table (table_at p s.table).shards
 
 -- those of the right side's table, if there is one
 abbrev pub right_bases : Layout → Option SideLayout → List DomainId
@@ -27,7 +34,7 @@ stage_shards p = map (λ n. domain.Stage n) (range_with_len 0 p.stages)
 
 -- the shards of the view at the place
 abbrev pub shards_of_view : Layout → ℕ → List DomainId
-shards_of_view p i = map (λ n. domain.View i n) (range_with_len 0 (view_at p i).shards)
+shards_of_view p i = views i (view_at p i).shards
 
 -- the shards of the views, view by view
 abbrev pub view_shards : Layout → List DomainId
@@ -70,7 +77,7 @@ edge_text p e = domain_text p e.from ++ (codes ">" ++ domain_text p e.to)
 
 -- the shards of all tables, in the stage or not
 abbrev pub shards_of_table : Layout → ℕ → List DomainId
-shards_of_table p t = map (λ n. domain.Base t n) (range_with_len 0 (table_at p t).shards)
+shards_of_table p t = bases t (table_at p t).shards
 
 abbrev pub base_shards : Layout → List DomainId
 base_shards p = flat_map (shards_of_table p) (range_with_len 0 (length p.tables))
@@ -93,3 +100,10 @@ edge_among p text (e ∷ es) = cond (bytes_eq (edge_text p e) text) (Some e) (ed
 
 abbrev pub edge_named : Layout → List ℕ → Option Edge
 edge_named p text = edge_among p text (edges p)
+
+-- it is one of the plan's domains, or edges, with the text, and each of them is found by its text
+abbrev pub IsDomainWith : Layout → List ℕ → Option DomainId → Type 0
+IsDomainWith p text d = (x : DomainId) → (d ≡ Some x) ↔ (Contains (domains p) x × (domain_text p x ≡ text))
+
+abbrev pub IsEdgeWith : Layout → List ℕ → Option Edge → Type 0
+IsEdgeWith p text e = (x : Edge) → (e ≡ Some x) ↔ (Contains (edges p) x × (edge_text p x ≡ text))

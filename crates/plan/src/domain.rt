@@ -1,7 +1,6 @@
 //! The domains of a plan, the edges between them, and the tags of requests.
 ghost use Rattle.std.specs.Prelude.{◌≡◌, ◌++◌, map, IfOk, OnOk};
-ghost use Rattle.std.specs.List.{range_with_len};
-ghost use Rattle.plan.specs.Domains.{sources, stage_shards, view_shards, edges_from, pairs, edges, tags};
+ghost use Rattle.plan.specs.Domains.{bases, views, sources, stage_shards, view_shards, edges_from, pairs, edges, tags};
 
 use crate::plan::Plan;
 use std::alloc::{AllocError, Global};
@@ -106,7 +105,7 @@ pub(crate) fn push_bases(
     table: usize,
     shards: usize,
 ) -> Result<(), AllocError>
-    ensures { OnOk result (out.new.items ≡ out.old.items ++ map (λ n. DomainId.Base table n) (range_with_len 0 shards)) }
+    ensures { OnOk result (out.new.items ≡ out.old.items ++ bases table shards) }
 {
     for shard in 0..shards {
         out.push(DomainId::Base(table, shard))?;
@@ -116,7 +115,7 @@ pub(crate) fn push_bases(
 
 /// Puts the shards of a view behind the others.
 fn push_view(out: &mut Vec<DomainId>, view: usize, shards: usize) -> Result<(), AllocError>
-    ensures { OnOk result (out.new.items ≡ out.old.items ++ map (λ n. DomainId.View view n) (range_with_len 0 shards)) }
+    ensures { OnOk result (out.new.items ≡ out.old.items ++ views view shards) }
 {
     for shard in 0..shards {
         out.push(DomainId::View(view, shard))?;

@@ -1,6 +1,6 @@
 //! Texts of domains and edges, and reading them back.
-ghost use Rattle.std.specs.Prelude.{◌≡◌, ◌↔◌, Contains, IfOk, Some, string_bytes};
-ghost use Rattle.plan.specs.Domains.{domain_text, edge_text, numbered, base_shards, domains, edges, named_among, edge_among, domain_named, edge_named};
+ghost use Rattle.std.specs.Prelude.{◌≡◌, IfOk, string_bytes};
+ghost use Rattle.plan.specs.Domains.{domain_text, edge_text, numbered, base_shards, named_among, edge_among, domain_named, edge_named, IsDomainWith, IsEdgeWith};
 
 use crate::domain::{DomainId, Edge, push_bases};
 use crate::plan::Plan;
@@ -33,7 +33,7 @@ impl Plan {
     pub fn domain_named(&self, alloc: Global, text: &str) -> Result<Option<DomainId>, AllocError>
         ensures domain { IfOk result (λ d. d ≡ domain_named self.now text.now) }
         // It is one of the plan's domains with this text, and each of them is found by its text.
-        ensures exact { IfOk result (λ d. (x : DomainId) → (d ≡ Some x) ↔ (Contains (domains self.now) x × (domain_text self.now x ≡ text.now))) }
+        ensures exact { IfOk result (IsDomainWith self.now text.now) }
     {
         self.keeps_profile();
         let mut domains = self.base_shards(alloc)?;
@@ -47,7 +47,7 @@ impl Plan {
     pub fn edge_named(&self, alloc: Global, text: &str) -> Result<Option<Edge>, AllocError>
         ensures edge { IfOk result (λ e. e ≡ edge_named self.now text.now) }
         // It is one of the plan's edges with this text, and each of them is found by its text.
-        ensures exact { IfOk result (λ e. (x : Edge) → (e ≡ Some x) ↔ (Contains (edges self.now) x × (edge_text self.now x ≡ text.now))) }
+        ensures exact { IfOk result (IsEdgeWith self.now text.now) }
     {
         self.keeps_profile();
         let edges = self.edges(alloc)?;

@@ -5,7 +5,7 @@ ghost use Rattle.plan.specs.Layouts.{table_at, table_named, view_at, view_named}
 ghost use Rattle.plan.specs.Facts.{Facts};
 ghost use Rattle.plan.specs.Outputs.{key_place};
 ghost use Rattle.plan.specs.Profile.{IsPlan};
-ghost use Rattle.plan.specs.Recipes.{notes_plan};
+ghost use Rattle.plan.specs.Recipes.{notes_plan, view};
 
 use crate::draft::Draft;
 use crate::kinds::{Aggregate, Kind};
@@ -36,7 +36,7 @@ impl Model for ViewPlan {
 impl ViewPlan {
     /// A view of this name, keyed by the column at the place `key`.
     pub fn new(name: String, key: usize, shards: usize, cap: usize) -> ViewPlan
-        ensures { result ≡ record { name = string_bytes name; key = key; shards = shards; cap = cap } }
+        ensures { result ≡ view (string_bytes name) key shards cap }
     {
         ViewPlan {
             name,

@@ -1,8 +1,8 @@
 //! The one stage of a plan: the sides that it reads, and their conditions.
-ghost use Rattle.std.specs.Prelude.{◌≡◌, ◌&&◌, nat_lt};
+ghost use Rattle.std.specs.Prelude.{◌≡◌};
 ghost use Rattle.std.specs.List.{list_all};
 ghost use Rattle.row.specs.Cells.{datum_of};
-ghost use Rattle.plan.specs.Layouts.{ConditionLayout, no_table};
+ghost use Rattle.plan.specs.Layouts.{no_table};
 ghost use Rattle.plan.specs.Outputs.{holds, pass};
 ghost use Rattle.plan.specs.Profile.{value_is_small, values_are_small, side_is_small, columns_are_within, side_is_within, is_condition};
 

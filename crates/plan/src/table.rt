@@ -5,6 +5,7 @@ ghost use Rattle.std.specs.List.{list_all};
 ghost use Rattle.row.specs.Cells.{datum_of};
 ghost use Rattle.plan.specs.Kinds.{is_cell, is_row};
 ghost use Rattle.plan.specs.Layouts.{ColumnLayout, column_at, kind_at};
+ghost use Rattle.plan.specs.Recipes.{table};
 ghost use Rattle.plan.specs.Profile.{is_from, is_name, is_new, are_apart, table_is_small, columns_are_apart};
 
 use crate::kinds::Kind;
@@ -83,7 +84,7 @@ impl Model for Table {
 impl Table {
     /// A table of these columns, keyed by the one at the place `key`.
     pub fn new(name: String, shards: usize, key: usize, columns: Vec<Column>) -> Table
-        ensures { result ≡ record { name = string_bytes name; shards = shards; key = key; columns = columns.items } }
+        ensures { result ≡ table (string_bytes name) shards key columns.items }
     {
         Table {
             name,
