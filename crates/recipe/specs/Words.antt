@@ -1,5 +1,6 @@
 -- Words of recipes, what a value says where it is of the kind, and places by names.
-use Rattle.std.specs.Prelude.{◌==◌, ℕ, nat_lt, ◌+◌, ℤ, pos, negsuc, Bool, true, false, ◌&&◌, ◌||◌, cond, List, [], ◌∷◌, length, codes, Option, Some, None, slice_index_or, position}
+use Rattle.std.specs.Prelude.{◌==◌, ℕ, nat_lt, ◌+◌, ℤ, pos, negsuc, Bool, true, false, ◌&&◌, ◌||◌, cond, List, [], ◌∷◌, length, codes, Option, Some, None, slice_index_or, position, String, string_bytes}
+use Rattle.std.specs.declared.alloc.Global.{Global}
 use Rattle.std.specs.Option.{unwrap_or}
 use Rattle.std.specs.Str.{bytes_eq}
 use Rattle.plan.specs.Layouts.{ColumnLayout, TableLayout, SideLayout, no_table}
@@ -37,6 +38,10 @@ members_of d = unwrap_or (as_table d) no_members
 abbrev pub is_one_of : List (List ℕ) → List ℕ → Bool
 is_one_of [] name = false
 is_one_of (x ∷ xs) name = bytes_eq name x || is_one_of xs name
+
+-- the name of a member is
+abbrev pub is_field : List (List ℕ) → String Global → Bool
+is_field names k = is_one_of names (string_bytes k)
 
 abbrev pub has_only : List (List ℕ) → Members → Bool
 has_only names no_members = true

@@ -1,129 +1,65 @@
 //! Names of fields, and places of tables and columns by their names.
-ghost use Rattle.std.specs.Prelude.{◌≡◌, ◌<◌, ◌≤◌, IfSome, length, position, slice_index_or, string_bytes, String};
+ghost use Rattle.std.specs.Prelude.{◌≡◌, ◌<◌, ◌≤◌, IfSome, length, map, position, slice_index_or};
 ghost use Rattle.std.specs.BTreeMap.{keys};
 ghost use Rattle.std.specs.List.{list_all};
 ghost use Rattle.std.specs.Str.{bytes_eq};
-ghost use Rattle.std.specs.declared.alloc.Global.{Global};
 ghost use Rattle.plan.specs.Layouts.{ColumnLayout, TableLayout, no_table};
 ghost use Rattle.toml.specs.View.{table_view};
-ghost use Rattle.recipe.specs.Words.{is_one_of, has_only, column_place, table_place, column_of_both};
-ghost use Rattle.recipe.specs.Fields.{table_fields, condition_fields, stage_fields, view_fields, top_fields};
+ghost use Rattle.recipe.specs.Words.{is_one_of, has_only, is_field, column_place, table_place, column_of_both};
 
 use plan::table::{Column, Table};
 use toml::value::Table as Members;
 
-/// Whether a table of the recipe has the field.
-fn is_table_field(name: &str) -> bool
-    ensures { result ≡ is_one_of table_fields name.now }
-{
-    name == "name" || name == "shards" || name == "key" || name == "columns"
-}
+/// The fields of the whole recipe.
+pub(crate) const TOP_FIELDS: [&str; 3] = ["table", "stage", "view"];
 
-/// Whether a condition has the field.
-fn is_condition_field(name: &str) -> bool
-    ensures { result ≡ is_one_of condition_fields name.now }
-{
-    name == "column" || name == "op" || name == "value"
-}
+/// The fields of a table.
+pub(crate) const TABLE_FIELDS: [&str; 4] = ["name", "shards", "key", "columns"];
 
-/// Whether the stage has the field.
-fn is_stage_field(name: &str) -> bool
-    ensures { result ≡ is_one_of stage_fields name.now }
-{
-    name == "shards"
-        || name == "left"
-        || name == "left_key"
-        || name == "right"
-        || name == "right_key"
-        || name == "aggregate"
-        || name == "sum"
-        || name == "left_where"
-        || name == "right_where"
-        || name == "cap"
-}
+/// The fields of the stage.
+pub(crate) const STAGE_FIELDS: [&str; 10] = [
+    "shards",
+    "left",
+    "left_key",
+    "right",
+    "right_key",
+    "aggregate",
+    "sum",
+    "left_where",
+    "right_where",
+    "cap",
+];
 
-/// Whether a view has the field.
-fn is_view_field(name: &str) -> bool
-    ensures { result ≡ is_one_of view_fields name.now }
-{
-    name == "name" || name == "key" || name == "shards" || name == "cap"
-}
+/// The fields of a condition.
+pub(crate) const CONDITION_FIELDS: [&str; 3] = ["column", "op", "value"];
 
-/// Whether the whole recipe has the field.
-fn is_top_field(name: &str) -> bool
-    ensures { result ≡ is_one_of top_fields name.now }
-{
-    name == "table" || name == "stage" || name == "view"
-}
+/// The fields of a view.
+pub(crate) const VIEW_FIELDS: [&str; 4] = ["name", "key", "shards", "cap"];
 
-/// Whether there are only fields of a table.
+/// Whether there are only these fields.
 #[tactic(auto, using(crate::proofs::Members::only_keys))]
-pub(crate) fn has_table_fields(members: &Members) -> bool
-    ensures { result ≡ has_only table_fields (table_view members.now) }
+pub(crate) fn has_only(members: &Members, fields: &[&str]) -> bool
+    ensures { result ≡ has_only (map (λ f. f.now) fields.now) (table_view members.now) }
 {
-    are_table_fields(members)
+    are_among(members, fields)
 }
 
-fn are_table_fields(members: &Members) -> bool
-    ensures { result ≡ list_all (λ (k : String Global). is_one_of table_fields (string_bytes k)) (keys members.now) }
+fn are_among(members: &Members, fields: &[&str]) -> bool
+    ensures { result ≡ list_all (is_field (map (λ f. f.now) fields.now)) (keys members.now) }
 {
-    members.keys().all(|name| is_table_field(name))
+    members.keys().all(|name| is_one_of(fields, name))
 }
 
-/// Whether there are only fields of a condition.
-#[tactic(auto, using(crate::proofs::Members::only_keys))]
-pub(crate) fn has_condition_fields(members: &Members) -> bool
-    ensures { result ≡ has_only condition_fields (table_view members.now) }
+/// Whether the name is one of these.
+fn is_one_of(fields: &[&str], name: &str) -> bool
+    ensures { result ≡ is_one_of (map (λ f. f.now) fields.now) name.now }
 {
-    are_condition_fields(members)
-}
-
-fn are_condition_fields(members: &Members) -> bool
-    ensures { result ≡ list_all (λ (k : String Global). is_one_of condition_fields (string_bytes k)) (keys members.now) }
-{
-    members.keys().all(|name| is_condition_field(name))
-}
-
-/// Whether there are only fields of the stage.
-#[tactic(auto, using(crate::proofs::Members::only_keys))]
-pub(crate) fn has_stage_fields(members: &Members) -> bool
-    ensures { result ≡ has_only stage_fields (table_view members.now) }
-{
-    are_stage_fields(members)
-}
-
-fn are_stage_fields(members: &Members) -> bool
-    ensures { result ≡ list_all (λ (k : String Global). is_one_of stage_fields (string_bytes k)) (keys members.now) }
-{
-    members.keys().all(|name| is_stage_field(name))
-}
-
-/// Whether there are only fields of a view.
-#[tactic(auto, using(crate::proofs::Members::only_keys))]
-pub(crate) fn has_view_fields(members: &Members) -> bool
-    ensures { result ≡ has_only view_fields (table_view members.now) }
-{
-    are_view_fields(members)
-}
-
-fn are_view_fields(members: &Members) -> bool
-    ensures { result ≡ list_all (λ (k : String Global). is_one_of view_fields (string_bytes k)) (keys members.now) }
-{
-    members.keys().all(|name| is_view_field(name))
-}
-
-/// Whether there are only fields of a recipe.
-#[tactic(auto, using(crate::proofs::Members::only_keys))]
-pub(crate) fn has_top_fields(members: &Members) -> bool
-    ensures { result ≡ has_only top_fields (table_view members.now) }
-{
-    are_top_fields(members)
-}
-
-fn are_top_fields(members: &Members) -> bool
-    ensures { result ≡ list_all (λ (k : String Global). is_one_of top_fields (string_bytes k)) (keys members.now) }
-{
-    members.keys().all(|name| is_top_field(name))
+    for field in fields {
+        if name == *field {
+            return true;
+        }
+    }
+    false
 }
 
 fn find_column(columns: &[Column], name: &str) -> Option<usize>

@@ -9,8 +9,8 @@ ghost use Rattle.recipe.specs.Fields.{each, column_of, column_at, columns_at, ta
 use crate::error::{Part, PlanError, Spot};
 use crate::fields::{list_in, table_in, text, text_in, whole};
 use crate::names::{
-    column_of_both, column_place, columns_at as columns_there, has_table_fields, has_top_fields,
-    has_view_fields,
+    TABLE_FIELDS, TOP_FIELDS, VIEW_FIELDS, column_of_both, column_place,
+    columns_at as columns_there, has_only,
 };
 use crate::stage::stage;
 use crate::word::kind_of;
@@ -77,7 +77,7 @@ fn table_at(alloc: Global, value: &Value, part: Part) -> Result<Table, PlanError
     let shards = whole(value, part, "shards")?;
     let key = text(value, part, "key")?;
     let columns = columns(alloc, value, part)?;
-    if !has_table_fields(members) {
+    if !has_only(members, &TABLE_FIELDS) {
         return Err(PlanError::TypeMismatch(Spot::new(part, "table", LISTED)));
     }
     let place = column_place(&columns, key);
@@ -141,7 +141,7 @@ fn view_at(
     let key = text(value, part, "key")?;
     let shards = whole(value, part, "shards")?;
     let cap = whole(value, part, "cap")?;
-    if !has_view_fields(members) {
+    if !has_only(members, &VIEW_FIELDS) {
         return Err(PlanError::TypeMismatch(Spot::new(part, "view", LISTED)));
     }
     let place = column_of_both(lefts, rights, key);
@@ -223,7 +223,7 @@ pub(crate) fn draft_at(alloc: Global, document: &Value) -> Result<Draft, PlanErr
     let lefts = side_columns(&tables, &stage.left);
     let rights = right_side_columns(&tables, &stage.right);
     let views = views(alloc, lefts, rights, document)?;
-    if !has_top_fields(members) {
+    if !has_only(members, &TOP_FIELDS) {
         return Err(PlanError::TypeMismatch(Spot::new(Part::Recipe, "recipe", LISTED)));
     }
     Ok(Draft {

@@ -10,7 +10,9 @@ ghost use Rattle.recipe.specs.Fields.{each, needed, optional, op_at, value_at, c
 
 use crate::error::{Part, PlanError, Spot};
 use crate::fields::{list_in, paired, table_in, text, text_in, whole, whole_or};
-use crate::names::{column_place, columns_at, has_condition_fields, has_stage_fields, table_place};
+use crate::names::{
+    CONDITION_FIELDS, STAGE_FIELDS, column_place, columns_at, has_only, table_place,
+};
 use crate::word::{Word, op_of, word_of};
 use plan::kinds::{Aggregate, Op};
 use plan::stage::{Condition, Side};
@@ -89,7 +91,7 @@ fn condition_at(
     let column = text(member, part, "column")?;
     let op = op(member, part)?;
     let value = value(alloc, member, part)?;
-    if !has_condition_fields(members) {
+    if !has_only(members, &CONDITION_FIELDS) {
         return Err(PlanError::TypeMismatch(Spot::new(part, "condition", LISTED)));
     }
     Ok(Condition::new(column_place(columns, column), op, value))
@@ -311,7 +313,7 @@ fn stage_at(alloc: Global, tables: &[Table], stage: &Value) -> Result<StageParts
     let left_where = left_where(alloc, columns_of(tables, left), stage)?;
     let right_where = right_where(alloc, right_columns(tables, right), right, stage)?;
     let cap = whole_or(1024, stage, Part::Stage, "cap")?;
-    if !has_stage_fields(members) {
+    if !has_only(members, &STAGE_FIELDS) {
         return Err(PlanError::TypeMismatch(Spot::new(Part::Stage, "stage", LISTED)));
     }
     Ok(StageParts {
