@@ -1,6 +1,4 @@
 //! The items of a history, and the authors of entries.
-ghost use Rattle.std.specs.Prelude.{◌≡◌};
-
 use crate::entry::Entry;
 use crate::floors::Floors;
 use crate::lengths::Lengths;
@@ -48,8 +46,8 @@ pub enum Item {
 /// Who wrote an entry of a log: the session, and the number of the write.
 #[derive(Drop)]
 pub struct Author {
-    session: usize,
-    number: u64,
+    pub session: usize,
+    pub number: u64,
 }
 
 impl Model for Author {
@@ -58,27 +56,4 @@ impl Model for Author {
     ghost Value = { AuthorView };
 
     ghost view = { λ a. record { session = a.session; number = a.number } };
-}
-
-impl Author {
-    /// The author of the write of this number, of this session.
-    pub fn new(session: usize, number: u64) -> Author
-        ensures { result ≡ record { session = session; number = number } }
-    {
-        Author { session, number }
-    }
-
-    /// The session. Constant time.
-    pub fn session(&self) -> usize
-        ensures { result ≡ self.now.session }
-    {
-        self.session
-    }
-
-    /// The number of the write. Constant time.
-    pub fn number(&self) -> u64
-        ensures { result ≡ self.now.number }
-    {
-        self.number
-    }
 }

@@ -49,7 +49,7 @@ fn is_number_above(authors: &[Author], session: usize, number: u64) -> bool
         authors.now) }
 {
     for author in authors {
-        if author.session() == session && author.number() >= number {
+        if author.session == session && author.number >= number {
             return false;
         }
     }

@@ -92,7 +92,11 @@ fn push_author(authors: &mut Vec<Author>, base: usize, item: &Item) -> Result<()
 {
     if let Item::Write(write) = item {
         if write.base == base {
-            authors.push(Author::new(write.session, write.number))?;
+            let author = Author {
+                session: write.session,
+                number: write.number,
+            };
+            authors.push(author)?;
         }
     }
     Ok(())

@@ -115,7 +115,7 @@ pub fn is_own(
     }
     let authors = authors_of(alloc, items, place.base)?;
     match authors.get(place.index as usize) {
-        Some(author) => Ok(author.session() == session),
+        Some(author) => Ok(author.session == session),
         None => Ok(false),
     }
 }

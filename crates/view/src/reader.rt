@@ -63,7 +63,7 @@ impl<J: Naming> ShownReader<J> {
         let Ok(reading) = reader.enter_as::<Looks>() else {
             return Err(AllocError);
         };
-        let is_of = reading.get().view() == view && reading.get().shard() == shard;
+        let is_of = reading.get().view == view && reading.get().shard == shard;
         let reader = reading.leave();
         if !is_of {
             return Err(AllocError);

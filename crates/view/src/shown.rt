@@ -22,8 +22,8 @@ use std::marker::Model;
 #[derive(Drop)]
 pub struct Shown<J: Naming> {
     alloc: Global,
-    view: usize,
-    shard: usize,
+    pub(crate) view: usize,
+    pub(crate) shard: usize,
     rows: Grouped,
     cut: Cut<J>,
     asked: u64,
@@ -91,20 +91,6 @@ impl<J: Naming> Shown<J> {
         ensures none { IsNone result → is_shown self.now (datum_of key.now) ≡ false }
     {
         Some(self.rows.rows_of(key))
-    }
-
-    /// The view.
-    pub fn view(&self) -> usize
-        ensures { result ≡ self.now.view }
-    {
-        self.view
-    }
-
-    /// The shard of the view.
-    pub fn shard(&self) -> usize
-        ensures { result ≡ self.now.shard }
-    {
-        self.shard
     }
 
     /// The cut.

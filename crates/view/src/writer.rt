@@ -82,7 +82,7 @@ impl<J: Naming, R: Wait + Drop> ShownWriter<J, R> {
         ensures pending { dropped self.new.writer.behind self.new.writer.log.items ≡ dropped self.old.writer.behind self.old.writer.log.items }
     {
         let shown = self.writer.published();
-        let (view, shard) = (shown.view(), shown.shard());
+        let (view, shard) = (shown.view, shown.shard);
         let mut reader = self.writer.factory().reader()?;
         reader.learn::<Tells>(self.writer.tell::<Tells>());
         ShownReader::over(reader, view, shard)
