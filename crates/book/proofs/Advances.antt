@@ -1,11 +1,10 @@
 -- A cut after one of its lengths was set.
-use Rattle.std.proofs.Common.{◌≡◌, ◌≢◌, ℕ, zero, suc, ◌<◌, ◌≤◌, ◌==◌, true, false, List, [], ◌∷◌, length, take, slice_index_or, slice_set, refl, ap, sym, ◌∙◌, subst, arith, get_or-set_same, get_or-set_other, length-set, ◌⊎◌, inl, inr}
-use Rattle.std.proofs.lemmas.Bool.Decides.{eqb_tells}
+use Rattle.std.proofs.Common.{◌≡◌, ℕ, ◌<◌, ◌≤◌, List, length, take, ap, sym, ◌∙◌, subst}
 use mathlib.Core.List.{IsPrefix}
 use Rattle.plan.specs.Layouts.{Layout}
 use Rattle.model.specs.Places.{sources, source_at}
-use Rattle.model.specs.Histories.{Item, Lengths, len_at, log_of}
-use Rattle.model.specs.Cuts.{line_of, fronts_of, IsWithin}
+use Rattle.model.specs.Histories.{Item, Lengths, log_of}
+use Rattle.model.specs.Cuts.{fronts_of, IsWithin}
 use Rattle.book.specs.Pages.{Page, history_of}
 use Rattle.book.specs.Fronts.{IsFront, entries}
 use Rattle.model.specs.Tables.{with_length, with_front}

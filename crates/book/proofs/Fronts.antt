@@ -1,19 +1,18 @@
 -- What a try tells of a front.
-use Rattle.std.proofs.Common.{◌≡◌, ◌≢◌, ℕ, ◌+◌, ◌<◌, ◌≤◌, ◌==◌, Bool, true, false, cond, List, [], ◌∷◌, ◌++◌, length, take, refl, ap, sym, ◌∙◌, subst, arith, append-nil, flat_map, length-append, take_all}
+use Rattle.std.proofs.Common.{◌≡◌, ℕ, ◌+◌, ◌<◌, ◌≤◌, ◌==◌, Bool, true, false, cond, List, [], ◌∷◌, ◌++◌, length, take, refl, ap, sym, ◌∙◌, subst, arith, append-nil, flat_map, length-append, take_all}
 use Rattle.std.proofs.lemmas.List.Concat.{flat_map-append}
-use Rattle.std.proofs.lemmas.List.{take-append-le, take-take}
+use Rattle.std.proofs.lemmas.List.{take-append-le}
 use Rattle.std.proofs.lemmas.Bool.Decides.{nat_tests}
 use mathlib.Core.List.{IsPrefix}
-use Rattle.row.specs.Cells.{shard}
 use Rattle.row.specs.Bags.{Each}
 use Rattle.plan.specs.Layouts.{Layout}
-use Rattle.model.specs.Logs.{Change, lawful, fits, key_of}
-use Rattle.model.specs.Places.{layout_of, shard_of}
+use Rattle.model.specs.Logs.{Change, lawful}
+use Rattle.model.specs.Places.{layout_of}
 use Rattle.model.specs.Histories.{Item, write, Author, entry_in, log_of, author_in, authors_of}
 use Rattle.book.specs.Words.{count_at}
-use Rattle.model.specs.Legal.{AllowsWrite, limit}
+use Rattle.model.specs.Legal.{AllowsWrite}
 use Rattle.book.specs.Pages.{Page, history_of, IsAdded}
-use Rattle.book.specs.Fronts.{FrontView, entries, authors, IsFront, IsAppended, IsMoved}
+use Rattle.book.specs.Fronts.{FrontView, entries, authors, IsFront, IsAppended, IsMoved, MayAppend}
 use Rattle.book.proofs.Parts.{length_log, flat_later, entry_blind, author_blind, IsBlind}
 use Rattle.book.proofs.Steps.{rest_of}
 
@@ -54,8 +53,7 @@ appended p v w b len s m e f (is, a) =
     let l : length (log_of b (history_of v)) ≡ len = length_log p b f.base (history_of v) ∙ is in
     record {
       item = a;
-      base = refl;
-      len = refl;
+      stays = refl;
       entries = take_more_all (log_of b (history_of v)) (log_of b (history_of w)) e len (sym l) (entries_added p b s m e (history_of v) (history_of w) a);
       authors = take_more_all (authors_of b (history_of v)) (authors_of b (history_of w)) (record { session = s; number = m }) len (sym (length_authors b (history_of v) ∙ l)) (authors_added p b s m e (history_of v) (history_of w) a);
     }
@@ -85,31 +83,28 @@ authors_later p v w b len f pre =
     let r = rest_of v w pre in
     rw (r.1, flat_map-append (author_in b) (history_of v) r.0) (take-append-le len (authors_of b (history_of v)) (authors_of b r.0) (omega (arith, f.len, length_authors b (history_of v))))
 
-pub moved : (p : Layout) (v w : List Page) (b len found : ℕ) → IsFront p (front_at b len v) → IsPrefix v w → found ≢ len → found ≡ count_at p b (history_of w) → IsMoved (front_at b len v) (front_at b len w)
-moved p v w b len found f pre off is =
-    let g = front_later p v w b len f pre in
+pub moved : (p : Layout) (v w : List Page) (b len : ℕ) → IsFront p (front_at b len v) → IsPrefix v w → len < count_at p b (history_of w) → IsMoved (front_at b len v) (front_at b len w)
+moved p v w b len f pre more =
     let r = rest_of v w pre in
     record {
-      base = refl;
-      len = refl;
+      stays = refl;
       grown = (r.0, sym r.1);
-      longer = omega (arith, g.len, off, length_log p b f.base (history_of w), is);
+      longer = omega (arith, length_log p b f.base (history_of w), more);
     }
 
 -- what the front says of the log, while nobody has moved its word
-pub may_write : (p : Layout) (v : List Page) (b len s m : ℕ) (e : Change) → IsFront p (front_at b len v) → fits (layout_of p b) e ≡ true → shard_of p b ≡ shard (key_of (layout_of p b).key e) (layout_of p b).shards
-    → lawful (layout_of p b).key (entries (front_at b len v)) e ≡ true → len < limit → Each (λ (a : Author). a.session ≡ s → a.number < m) (authors (front_at b len v)) → count_at p b (history_of v) ≡ len → AllowsWrite p (history_of v) s m b e
-may_write p v b len s m e f fit here law room number is =
+pub may_write : (p : Layout) (v : List Page) (b len s m : ℕ) (e : Change) → IsFront p (front_at b len v) → MayAppend p (front_at b len v) s m e → count_at p b (history_of v) ≡ len → AllowsWrite p (history_of v) s m b e
+may_write p v b len s m e f q is =
     let l : length (log_of b (history_of v)) ≡ len = length_log p b f.base (history_of v) ∙ is in
     let es : take len (log_of b (history_of v)) ≡ log_of b (history_of v) = take_all len (log_of b (history_of v)) (omega arith) in
     let ws : take len (authors_of b (history_of v)) ≡ authors_of b (history_of v) = take_all len (authors_of b (history_of v)) (omega (arith, length_authors b (history_of v))) in
     record {
-      fits = fit;
+      fits = q.fits;
       base = f.base;
-      shard = here;
-      lawful = ap (λ log. lawful (layout_of p b).key log e) (sym es) ∙ law;
-      room = rw l room;
-      number = subst (λ (w : List Author). Each (λ (a : Author). a.session ≡ s → a.number < m) w) ws number;
+      shard = q.shard;
+      lawful = ap (λ log. lawful (layout_of p b).key log e) (sym es) ∙ q.lawful;
+      room = rw l q.room;
+      number = subst (λ (w : List Author). Each (λ (a : Author). a.session ≡ s → a.number < m) w) ws q.number;
     }
 
 pub front_count : (p : Layout) (v : List Page) (b len : ℕ) → IsFront p (front_at b len v) → len ≤ count_at p b (history_of v)

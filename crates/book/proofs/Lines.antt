@@ -5,7 +5,7 @@ use mathlib.Core.List.{IsPrefix}
 use Rattle.row.specs.Bags.{Each}
 use Rattle.row.proofs.BagLemmas.{Each-weaker}
 use Rattle.plan.specs.Layouts.{ViewLayout, Layout, no_view, view_at}
-use Rattle.model.specs.Histories.{Item, Lengths, len_at, floor_at, log_of}
+use Rattle.model.specs.Histories.{Item, Lengths, len_at, log_of}
 use Rattle.model.specs.Places.{sources, source_at}
 use Rattle.model.specs.Cuts.{IsWithin}
 use Rattle.book.specs.Fronts.{FrontView, IsReached}

@@ -1,5 +1,5 @@
 -- What a session knows from a reply.
-use Rattle.std.proofs.Common.{◌≡◌, ℕ, zero, suc, ◌+◌, ◌-◌, ◌<◌, ◌≤◌, ◌==◌, nat_le, Bool, true, false, cond, List, [], ◌∷◌, ◌++◌, length, slice_get, take, drop, length-take-le, take-append-drop, Some, refl, ap, sym, ◌∙◌, subst, arith, append_assoc, length-append, ◌⊎◌, inl, inr}
+use Rattle.std.proofs.Common.{◌≡◌, ℕ, zero, suc, ◌+◌, ◌-◌, ◌<◌, ◌≤◌, ◌==◌, nat_le, Bool, true, false, cond, List, [], ◌∷◌, ◌++◌, length, slice_get, take, drop, length-take-le, take-append-drop, Some, refl, ap, sym, ◌∙◌, subst, arith, append_assoc, flat_map, length-append, ◌⊎◌, inl, inr}
 use Rattle.std.proofs.lemmas.List.Concat.{flat_map-append}
 use Rattle.std.proofs.lemmas.Bool.Decides.{nat_tests}
 use mathlib.Core.List.{IsPrefix}
@@ -9,9 +9,9 @@ use Rattle.model.specs.Histories.{Item, write, read, fence, Author, log_of, auth
 use Rattle.book.specs.Pages.{Page, history_of}
 use Rattle.book.specs.Fronts.{FrontView, IsFront, IsAppended}
 use Rattle.model.specs.Legal.{IsLegal}
-use Rattle.book.specs.Replies.{IsWritten, IsAfter, longer}
-use Rattle.model.proofs.Prefixes.{prefix_get, prefix_whole, prefix_length, prefix_self}
-use Rattle.book.proofs.Steps.{rest_of}
+use Rattle.book.specs.Replies.{IsWritten, IsAfter, HasLogOf, longer}
+use Rattle.model.proofs.Prefixes.{prefix_either, prefix_get, prefix_whole, prefix_length, prefix_self}
+use Rattle.book.proofs.Steps.{rest_of, seen_more}
 use Rattle.book.proofs.Fronts.{length_authors}
 
 abbrev by : ℕ → ℕ → Author
@@ -81,6 +81,10 @@ stands_after v o w s m b k e vw ow le at who =
       place = ap length (flat_map-append (entry_in b) (history_of v) p.before) ∙ omega (arith, length-append (log_of b (history_of v)) (log_of b p.before), p.at, le);
     }
 
+-- of two parts of one history one begins the other
+pub one_begins : (v o w : List Page) → IsPrefix v w → IsPrefix o w → IsPrefix (history_of v) (history_of o) ⊎ IsPrefix (history_of o) (history_of v)
+one_begins v o w vw ow = prefix_either (history_of v) (history_of o) (history_of w) (seen_more v w vw) (seen_more o w ow)
+
 -- the longer of two parts of one history begins with both
 longer_of : (xs ys : List Item) → IsPrefix xs ys ⊎ IsPrefix ys xs → (o : Bool) → nat_le (length xs) (length ys) ≡ o → IsPrefix xs (cond o ys xs) × IsPrefix ys (cond o ys xs)
 longer_of xs ys (inl p) true o = (p, prefix_self ys)
@@ -94,27 +98,21 @@ longer_of xs ys (inr p) false o = (prefix_self xs, p)
 pub longer_both : (xs ys : List Item) → IsPrefix xs ys ⊎ IsPrefix ys xs → IsPrefix xs (longer xs ys) × IsPrefix ys (longer xs ys)
 longer_both xs ys either = longer_of xs ys either (nat_le (length xs) (length ys)) refl
 
--- where the second part's log is no shorter, it is the log of the longer part
-log_longer : (b : ℕ) (xs ys : List Item) → IsPrefix xs ys ⊎ IsPrefix ys xs → length (log_of b xs) ≤ length (log_of b ys) → (o : Bool) → nat_le (length xs) (length ys) ≡ o → log_of b (cond o ys xs) ≡ log_of b ys
-log_longer b xs ys either le true o = refl
-log_longer b xs ys (inl p) le false o = absurd (let l : length ys < length xs = grind (arith, nat_tests) in omega (arith, prefix_length xs ys p))
-log_longer b xs ys (inr p) le false o =
-    let pre : IsPrefix (log_of b ys) (log_of b xs) = (log_of b p.0, sym (ap (log_of b) (sym p.1) ∙ flat_map-append (entry_in b) ys p.0)) in
-    sym (prefix_whole (log_of b ys) (log_of b xs) pre le)
+-- where the second part's items make no shorter list, it is the list of the longer part
+list_longer : {A : Type 0} (g : Item → List A) (xs ys : List Item) → IsPrefix xs ys ⊎ IsPrefix ys xs → length (flat_map g xs) ≤ length (flat_map g ys) → (o : Bool) → nat_le (length xs) (length ys) ≡ o → flat_map g (cond o ys xs) ≡ flat_map g ys
+list_longer g xs ys either le true o = refl
+list_longer g xs ys (inl p) le false o = absurd (let l : length ys < length xs = grind (arith, nat_tests) in omega (arith, prefix_length xs ys p))
+list_longer g xs ys (inr p) le false o =
+    let pre : IsPrefix (flat_map g ys) (flat_map g xs) = (flat_map g p.0, sym (ap (flat_map g) (sym p.1) ∙ flat_map-append g ys p.0)) in
+    sym (prefix_whole (flat_map g ys) (flat_map g xs) pre le)
 
--- and so are its authors
-authors_longer : (b : ℕ) (xs ys : List Item) → IsPrefix xs ys ⊎ IsPrefix ys xs → length (authors_of b xs) ≤ length (authors_of b ys) → (o : Bool) → nat_le (length xs) (length ys) ≡ o → authors_of b (cond o ys xs) ≡ authors_of b ys
-authors_longer b xs ys either le true o = refl
-authors_longer b xs ys (inl p) le false o = absurd (let l : length ys < length xs = grind (arith, nat_tests) in omega (arith, prefix_length xs ys p))
-authors_longer b xs ys (inr p) le false o =
-    let pre : IsPrefix (authors_of b ys) (authors_of b xs) = (authors_of b p.0, sym (ap (authors_of b) (sym p.1) ∙ flat_map-append (author_in b) ys p.0)) in
-    sym (prefix_whole (authors_of b ys) (authors_of b xs) pre le)
-
-pub log_adopted : (b : ℕ) (xs ys : List Item) → IsPrefix xs ys ⊎ IsPrefix ys xs → length (log_of b xs) ≤ length (log_of b ys) → log_of b (longer xs ys) ≡ log_of b ys
-log_adopted b xs ys either le = log_longer b xs ys either le (nat_le (length xs) (length ys)) refl
-
-pub authors_adopted : (b : ℕ) (xs ys : List Item) → IsPrefix xs ys ⊎ IsPrefix ys xs → length (log_of b xs) ≤ length (log_of b ys) → authors_of b (longer xs ys) ≡ authors_of b ys
-authors_adopted b xs ys either le = authors_longer b xs ys either (omega (arith, le, length_authors b xs, length_authors b ys)) (nat_le (length xs) (length ys)) refl
+pub has_log : (f : FrontView) (xs : List Item) → IsPrefix xs f.seen ⊎ IsPrefix f.seen xs → length (log_of f.base xs) ≤ length (log_of f.base f.seen) → HasLogOf f (longer xs f.seen)
+has_log f xs either le =
+    let more = nat_le (length xs) (length f.seen) in
+    record {
+      log = list_longer (entry_in f.base) xs f.seen either le more refl;
+      authors = list_longer (author_in f.base) xs f.seen either (omega (arith, le, length_authors f.base xs, length_authors f.base f.seen)) more refl;
+    }
 
 -- the longer part is one of the two
 pub legal_longer : (p : Layout) (n : ℕ) (xs ys : List Item) → IsLegal p n xs → IsLegal p n ys → IsLegal p n (longer xs ys)

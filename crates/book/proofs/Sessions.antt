@@ -17,8 +17,9 @@ use Rattle.book.specs.Sessions.{SessionView, IsSame, own_word, own_items, IsSess
 use Rattle.model.specs.Tables.{IsTable, with_floor}
 use Rattle.book.proofs.Parts.{count_append, flat_later, floor_blind, IsBlind, flat_quiet}
 use Rattle.model.proofs.Growth.{within_later, fronts_later, own_later}
+use Rattle.model.proofs.Prefixes.{prefix_trans}
 use Rattle.book.proofs.Later.{floor_later}
-use Rattle.book.proofs.Steps.{rest_of, count_own}
+use Rattle.book.proofs.Steps.{rest_of, count_own, seen_more}
 
 abbrev pub session_at : ℕ → ℕ → Floors → List Page → SessionView
 session_at s a floors log = record { session = s; answered = a; floors = floors; seen = history_of log }
@@ -143,45 +144,41 @@ added_before p k a o v w i pre least (here, ad) =
       added = ad.added ∙ ap (λ l. l ++ i ∷ []) (ap (λ h. h ++ ad.between) r.1 ∙ append_assoc (history_of o) r.0 ad.between);
     }
 
-pub stolen : (p : Layout) (n : ℕ) (o w : List Page) (s a found : ℕ) (floors : Floors) → IsPrefix o w → IsSession p n (session_at s a floors w) → found ≢ a → found ≡ count_at p (own_word p s) (history_of w) → IsStolen p (session_at s a floors o) (session_at s a floors w)
-stolen p n o w s a found floors pre x off is = record {
-  session = refl;
-  answered = refl;
-  same = refl;
-  grown = (let r = rest_of o w pre in (r.0, sym r.1));
-  more = omega (arith, x.least, off, is);
-}
-
--- ---- as the functions ask: the word and the shard are numbers that were found to be those
-pub read_asked : (p : Layout) (n : ℕ) (v c : List Page) (s a : ℕ) (floors : Floors) (k j word : ℕ) (key : Datum) (rows : List Cells) (cut : Lengths) → word ≡ own_word p s → j ≡ shard key (view_at p k).shards → IsSession p n (session_at s a floors v) → IsPrefix c v → k < length p.views → j < (view_at p k).shards
-    → IsWithin p (history_of c) cut → IsAtMost (floor_at floors k j) cut → rows ≡ answer p (fronts_of p (history_of c) cut) k key → IsAsk p n word a (history_of v) (adds (read s k key rows cut))
-read_asked p n v c s a floors k j word key rows cut at on x pre lt js within floor is =
+-- ---- as the functions ask: the shard is a number that was found to be that
+pub read_asked : (p : Layout) (n : ℕ) (v c : List Page) (s a : ℕ) (floors : Floors) (k j : ℕ) (key : Datum) (rows : List Cells) (cut : Lengths) → j ≡ shard key (view_at p k).shards → IsSession p n (session_at s a floors v) → IsPrefix c v → k < length p.views → j < (view_at p k).shards
+    → IsWithin p (history_of c) cut → IsAtMost (floor_at floors k j) cut → rows ≡ answer p (fronts_of p (history_of c) cut) k key → IsAsk p n (own_word p s) a (history_of v) (adds (read s k key rows cut))
+read_asked p n v c s a floors k j key rows cut on x pre lt js within floor is =
     let mine = shard key (view_at p k).shards in
     let here : mine < (view_at p k).shards = subst (λ (i : ℕ). i < (view_at p k).shards) on js in
     let above : IsAtMost (floor_at floors k mine) cut = subst (λ (i : ℕ). IsAtMost (floor_at floors k i) cut) on floor in
     record {
       item = read s k key rows cut;
       asks = refl;
-      word = sym at;
-      range = rw at (omega (arith, x.range));
-      least = rw at x.least;
-      may = rw at (may_read p n v c s a floors k key rows cut x pre lt here within above is);
+      word = refl;
+      range = omega (arith, x.range);
+      least = x.least;
+      may = may_read p n v c s a floors k key rows cut x pre lt here within above is;
     }
 
-pub read_told : (p : Layout) (n : ℕ) (v w : List Page) (s a : ℕ) (floors : Floors) (k j word : ℕ) (key : Datum) (rows : List Cells) (cut : Lengths) → word ≡ own_word p s → j ≡ shard key (view_at p k).shards → IsSession p n (session_at s a floors v) → k < length p.views → j < (view_at p k).shards
-    → (count_at p word (history_of v) ≡ a) × IsAdded p word (history_of v) (read s k key rows cut) (history_of w) → IsSession p n (session_at s (a + 1) (with_floor floors k j cut) w)
-read_told p n v w s a floors k j word key rows cut at on x lt js told =
+pub read_told : (p : Layout) (n : ℕ) (v w : List Page) (s a : ℕ) (floors : Floors) (k j : ℕ) (key : Datum) (rows : List Cells) (cut : Lengths) → j ≡ shard key (view_at p k).shards → IsSession p n (session_at s a floors v) → k < length p.views → j < (view_at p k).shards
+    → (count_at p (own_word p s) (history_of v) ≡ a) × IsAdded p (own_word p s) (history_of v) (read s k key rows cut) (history_of w) → IsSession p n (session_at s (a + 1) (with_floor floors k j cut) w)
+read_told p n v w s a floors k j key rows cut on x lt js told =
     let here : shard key (view_at p k).shards < (view_at p k).shards = subst (λ (i : ℕ). i < (view_at p k).shards) on js in
-    rw on (read_done p n v w s a floors k key rows cut x lt here (rw at at told))
+    rw on (read_done p n v w s a floors k key rows cut x lt here told)
+
+pub stolen : (p : Layout) (o w : List Page) (s a : ℕ) (floors : Floors) → IsPrefix o w → a < own_items p s (history_of w) → IsStolen p (session_at s a floors o) (session_at s a floors w)
+stolen p o w s a floors pre more = record { stays = refl; grown = seen_more o w pre; more = more }
+
+-- a session that has seen more was stolen no later
+pub stolen_before : (p : Layout) (o v : List Page) (s a : ℕ) (floors : Floors) (y : SessionView) → IsPrefix o v → IsStolen p (session_at s a floors v) y → IsStolen p (session_at s a floors o) y
+stolen_before p o v s a floors y pre t = record { stays = t.stays; grown = prefix_trans (history_of o) (history_of v) y.seen (seen_more o v pre) t.grown; more = t.more }
 
 -- an answer is an item after all that the session had seen
-pub answered : (p : Layout) (n : ℕ) (o v w : List Page) (s a word : ℕ) (floors after : Floors) (i : Item) → word ≡ own_word p s → IsSession p n (session_at s a floors o) → IsPrefix o v
-    → (count_at p word (history_of v) ≡ a) × IsAdded p word (history_of v) i (history_of w) → IsAnswered p (session_at s a floors o) i after (session_at s (a + 1) after w)
-answered p n o v w s a word floors after i at x pre told = record {
-  item = added_before p (own_word p s) a o v w i pre x.least (rw at at told);
-  session = refl;
-  answered = refl;
-  after = refl;
+pub answered : (p : Layout) (n : ℕ) (o v w : List Page) (s a : ℕ) (floors after : Floors) (i : Item) → IsSession p n (session_at s a floors o) → IsPrefix o v
+    → (count_at p (own_word p s) (history_of v) ≡ a) × IsAdded p (own_word p s) (history_of v) i (history_of w) → IsAnswered p (session_at s a floors o) i after (session_at s (a + 1) after w)
+answered p n o v w s a floors after i x pre told = record {
+  item = added_before p (own_word p s) a o v w i pre x.least told;
+  stays = refl;
 }
 
 -- ---- fences
@@ -190,33 +187,31 @@ fence_floor p s own floors h w v j a =
     let one : floor_in p s v j (fence s own floors) ≡ floor_at floors v j ∷ [] = rw (self s) refl in
     floor_more p s v j h w (fence s own floors) a ∙ (ap (λ l. last_or [] (flat_map (floor_in p s v j) h ++ l)) one ∙ last_one [] (floor_at floors v j) (flat_map (floor_in p s v j) h))
 
-pub fence_asked : (p : Layout) (n : ℕ) (o v c : List Page) (s a : ℕ) (floors cuts : Floors) (own : List Place) (word : ℕ) → word ≡ own_word p s → IsSession p n (session_at s a floors v) → IsPrefix o v → IsPrefix c v
-    → AreWithin p (record { floors = cuts; seen = history_of c }) → EachShard p (λ i j. IsAtMost (floor_at floors i j) (floor_at cuts i j)) → EachShard p (λ i j. Each (IsPast p (floor_at cuts i j)) own) → Each (IsOwn p (history_of o) s) own → IsAsk p n word a (history_of v) (adds (fence s own cuts))
-fence_asked p n o v c s a floors cuts own word at x first pre within above covers is = record {
+pub fence_asked : (p : Layout) (n : ℕ) (o v c : List Page) (s a : ℕ) (floors cuts : Floors) (own : List Place) → IsSession p n (session_at s a floors v) → IsPrefix o v → IsPrefix c v
+    → AreWithin p (record { floors = cuts; seen = history_of c }) → EachShard p (λ i j. IsAtMost (floor_at floors i j) (floor_at cuts i j)) → EachShard p (λ i j. Each (IsPast p (floor_at cuts i j)) own) → Each (IsOwn p (history_of o) s) own → IsAsk p n (own_word p s) a (history_of v) (adds (fence s own cuts))
+fence_asked p n o v c s a floors cuts own x first pre within above covers is = record {
   item = fence s own cuts;
   asks = refl;
-  word = sym at;
-  range = rw at (omega (arith, x.range));
-  least = rw at x.least;
+  word = refl;
+  range = omega (arith, x.range);
+  least = x.least;
   may = λ here. (let r = rest_of c v pre in let t = rest_of o v first in record {
     session = x.range;
     within = λ i j li lj. subst (λ (h : List Item). IsWithin p h (floor_at cuts i j)) (sym r.1) (within_later p (history_of c) r.0 (floor_at cuts i j) (within.within i j li lj));
-    floor = λ i j li lj st b. (let e = x.floors (let q = here in rw at at q) i j li lj st b in let f = above i j li lj st b in omega (arith, e, f));
+    floor = λ i j li lj st b. (let e = x.floors here i j li lj st b in let f = above i j li lj st b in omega (arith, e, f));
     past = covers;
     written = subst (λ (h : List Item). Each (IsOwn p h s) own) (sym t.1) (Each-weaker (IsOwn p (history_of o) s) (IsOwn p (history_of o ++ t.0) s) (own_later p (history_of o) t.0 s) own is);
   });
 }
 
-pub fence_told : (p : Layout) (n : ℕ) (v w : List Page) (s a : ℕ) (floors cuts : Floors) (own : List Place) (word : ℕ) → word ≡ own_word p s → IsSession p n (session_at s a floors v) → IsTable p cuts
-    → (count_at p word (history_of v) ≡ a) × IsAdded p word (history_of v) (fence s own cuts) (history_of w) → IsSession p n (session_at s (a + 1) cuts w)
-fence_told p n v w s a floors cuts own word at x table told =
-    let ad : (count_at p (own_word p s) (history_of v) ≡ a) × IsAdded p (own_word p s) (history_of v) (fence s own cuts) (history_of w) = rw at at told in
-    record {
-      range = x.range;
-      table = table;
-      least = omega (arith, count_added p (own_word p s) (history_of v) (history_of w) (fence s own cuts) refl ad.1, ad.0);
-      floors = λ is i j li lj st b. ap (λ l. len_at l st b) (fence_floor p s own cuts (history_of v) (history_of w) i j ad.1);
-    }
+pub fence_told : (p : Layout) (n : ℕ) (v w : List Page) (s a : ℕ) (floors cuts : Floors) (own : List Place) → IsSession p n (session_at s a floors v) → IsTable p cuts
+    → (count_at p (own_word p s) (history_of v) ≡ a) × IsAdded p (own_word p s) (history_of v) (fence s own cuts) (history_of w) → IsSession p n (session_at s (a + 1) cuts w)
+fence_told p n v w s a floors cuts own x table told = record {
+  range = x.range;
+  table = table;
+  least = omega (arith, count_added p (own_word p s) (history_of v) (history_of w) (fence s own cuts) refl told.1, told.0);
+  floors = λ is i j li lj st b. ap (λ l. len_at l st b) (fence_floor p s own cuts (history_of v) (history_of w) i j told.1);
+}
 
 pub zero_session : (p : Layout) (n : ℕ) (v : List Page) (s : ℕ) (floors : Floors) → s < n → IsTable p floors → ((k j : ℕ) → floor_at floors k j ≡ []) → IsSession p n (session_at s 0 floors v)
 zero_session p n v s floors lt table none = record {

@@ -1,5 +1,5 @@
 -- The steps keep the rule.
-use Rattle.std.proofs.Common.{◌≡◌, ◌≢◌, ℕ, ◌+◌, ◌<◌, ◌≤◌, ◌==◌, Bool, true, false, cond, List, [], ◌∷◌, ◌++◌, length, map, slice_index_or, slice_set, Option, refl, ap, sym, ◌∙◌, subst, arith, append_assoc, append-nil, inl, inr, None, ◌⊎◌, length-set, get_or-set_same, get_or-set_other}
+use Rattle.std.proofs.Common.{◌≡◌, ◌≢◌, ℕ, ◌+◌, ◌<◌, ◌≤◌, ◌==◌, Bool, true, false, cond, List, [], ◌∷◌, ◌++◌, length, map, slice_index_or, slice_set, Option, Result, Ok, Err, OnErr, refl, ap, sym, ◌∙◌, subst, arith, append_assoc, append-nil, inl, inr, None, ◌⊎◌, length-set, get_or-set_same, get_or-set_other}
 use Rattle.std.proofs.lemmas.List.Concat.{flat_map-append}
 use Rattle.std.proofs.lemmas.List.{map-append}
 use Rattle.std.proofs.lemmas.Bool.Decides.{nat_tests, eqb_tells}
@@ -11,7 +11,7 @@ use Rattle.model.specs.Histories.{Item}
 use Rattle.model.specs.Places.{base_count}
 use Rattle.book.specs.Words.{word_of, count_at}
 use Rattle.model.specs.Legal.{Allows}
-use Rattle.book.specs.Pages.{Page, opens, adds, item_in, history_of, IsLogOf, IsKeptBy, IsKept, Looks, IsAdded, IsTry, Tries, IsAsk}
+use Rattle.book.specs.Pages.{Page, opens, adds, item_in, history_of, IsLogOf, IsKeptBy, IsKept, Looks, IsTry, Tries, IsAsk, IsDone}
 use Rattle.book.proofs.Parts.{count_append}
 use Rattle.book.proofs.Later.{allows_later}
 use Rattle.model.proofs.Growth.{legal_more}
@@ -176,18 +176,29 @@ look_moves p n v k i a range cs log kept pre away =
       subst (GoesAt v k (λ c. c) (Looks (step k 0 0 i) (v, (no_nib, None))) cs log) (sym is) (look_goes p n v log k i cs a by pre lt),
     )
 
+-- ---- what holds of a result
+pub any_err : {A E P : Type 0} (r : Result A E) → P → OnErr r P
+any_err (Ok x) p = tt
+any_err (Err e) p = p
+
+pub on_err : {A E P Q : Type 0} (r : Result A E) → (P → Q) → OnErr r P → OnErr r Q
+on_err (Ok x) f p = tt
+on_err (Err e) f p = f p
+
 -- what a try tells where it found the number that it expected, and where it did not
-pub told_yes : (p : Layout) (n key k old : ℕ) (ask : Page) (i : Item) (found : ℕ) (v w : List Page) → IsTry p n key old ask found v w → key ≡ k → ask ≡ adds i → found ≡ old → (count_at p k (history_of v) ≡ old) × IsAdded p k (history_of v) i (history_of w)
-told_yes p n key k old ask i found v w t at asks is =
+pub told_yes : (p : Layout) (n k old : ℕ) (ask : Page) (found : ℕ) (v w : List Page) → IsTry p n k old ask found v w → found ≡ old → IsDone p k old ask (history_of v) (history_of w)
+told_yes p n k old ask found v w t is i asks =
     let yes : (found == old) ≡ true = grind (arith, nat_tests) in
     let all = t.tells i asks in
-    rw (← at) (rw yes at all)
+    rw yes at all
 
-pub told_no : (p : Layout) (n key k old : ℕ) (ask : Page) (i : Item) (found : ℕ) (v w : List Page) → IsTry p n key old ask found v w → key ≡ k → ask ≡ adds i → found ≢ old → found ≡ count_at p k (history_of w)
-told_no p n key k old ask i found v w t at asks is =
+pub told_no : (p : Layout) (n k old : ℕ) (ask : Page) (found : ℕ) (v w : List Page) → IsTry p n k old ask found v w → IsAsk p n k old (history_of v) ask → IsPrefix v w → found ≢ old → old < count_at p k (history_of w)
+told_no p n k old ask found v w t q pre is =
     let off : (found == old) ≡ false = grind (arith, nat_tests) in
-    let all = t.tells i asks in
-    rw (← at) (rw off at all)
+    let all = t.tells q.item q.asks in
+    let now : found ≡ count_at p k (history_of w) = rw off at all in
+    let r = rest_of v w pre in
+    omega (arith, q.least, count_append p k (history_of v) r.0, ap (count_at p k) r.1, now, is)
 
 pub ask_moves : (p : Layout) (n : ℕ) (v : List Page) (k old : ℕ) (ask : Page) → IsLogOf p n v → IsAsk p n k old (history_of v) ask
     → Moves IsKept shown moved k (v, (no_nib, None)) (λ c. either (c == old) (old + 1) c) (Tries (step k old (old + 1) ask) (v, (no_nib, None)))

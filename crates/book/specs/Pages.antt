@@ -72,6 +72,10 @@ pub record IsTry (p : Layout) (n k old : ℕ) (ask : Page) (found : ℕ) (v w : 
 abbrev pub Tries : Step Page → View Page ℕ → ℕ → View Page ℕ → Type 0
 Tries s v found w = (p : Layout) (n : ℕ) → IsLogOf p n v.0 → IsTry p n s.key s.old s.ask found v.0 w.0
 
+-- the word had the number that was expected, and the page's item was added
+abbrev pub IsDone : Layout → ℕ → ℕ → Page → List Item → List Item → Type 0
+IsDone p k old ask v w = (i : Item) → ask ≡ adds i → (count_at p k v ≡ old) × IsAdded p k v i w
+
 -- an item may be added by an exchange of this word from this number
 pub record IsAsk (p : Layout) (n k old : ℕ) (h : List Item) (ask : Page) : Type 0 where
   pub item : Item

@@ -1,16 +1,15 @@
 -- Cuts and sessions, each with the history that was seen.
-use Rattle.std.specs.Prelude.{◌≡◌, ℕ, ◌+◌, ◌<◌, ◌≤◌, List, [], map, length, replicate, slice_index_or, slice_set}
+use Rattle.std.specs.Prelude.{◌≡◌, ℕ, ◌+◌, ◌<◌, ◌≤◌, List, length}
 use mathlib.Core.List.{IsPrefix}
-use Rattle.plan.specs.Layouts.{ViewLayout, Layout, view_at}
-use Rattle.model.specs.Logs.{Change}
+use Rattle.plan.specs.Layouts.{Layout, view_at}
 use Rattle.model.specs.Places.{base_count}
 use Rattle.model.specs.Queries.{Line}
-use Rattle.model.specs.Histories.{Item, Lengths, len_at, Floors, floor_at, floor_of, Place as PlaceView}
+use Rattle.row.specs.Cells.{Datum, Cells}
+use Rattle.model.specs.Histories.{Item, read, fence, Lengths, len_at, Floors, floor_at, floor_of, Place as PlaceView}
 use Rattle.model.specs.Cuts.{fronts_of, IsWithin}
 use Rattle.book.specs.Words.{count_at}
-use Rattle.book.specs.Pages.{IsAdded}
-use Rattle.model.specs.declared.place.Place.{Place}
-use Rattle.model.specs.Tables.{IsTable}
+use Rattle.book.specs.Pages.{Page, IsAdded, IsAsk, IsDone}
+use Rattle.model.specs.Tables.{IsTable, with_floor}
 
 -- a cut, and the history that was seen with it
 pub record CutView : Type 0 where
@@ -51,18 +50,29 @@ pub record IsSession (p : Layout) (n : ℕ) (x : SessionView) : Type 0 where
   pub least : x.answered ≤ own_items p x.session x.seen
   pub floors : own_items p x.session x.seen ≡ x.answered → (v j : ℕ) → v < length p.views → j < (view_at p v).shards → IsSame (floor_of p x.session v j x.seen) (floor_at x.floors v j)
 
+-- the item may be added to the session's word now; and it was
+abbrev pub IsOwnAsk : Layout → ℕ → SessionView → Page → Type 0
+IsOwnAsk p n x ask = IsAsk p n (own_word p x.session) x.answered x.seen ask
+
+abbrev pub IsOwnDone : Layout → SessionView → Page → List Item → Type 0
+IsOwnDone p x ask h = IsDone p (own_word p x.session) x.answered ask x.seen h
+
 -- one more answer, by an item that stands at the end of what was then seen
 pub record IsAnswered (p : Layout) (x : SessionView) (i : Item) (floors : Floors) (y : SessionView) : Type 0 where
   pub item : IsAdded p (own_word p x.session) x.seen i y.seen
-  pub session : y.session ≡ x.session
-  pub answered : y.answered ≡ x.answered + 1
-  pub after : y.floors ≡ floors
+  pub stays : y ≡ record x { answered = x.answered + 1; floors = floors; seen = y.seen }
+
+-- a read was answered over this cut, which is the session's floor then
+abbrev pub IsRead : Layout → SessionView → ℕ → ℕ → Datum → List Cells → Lengths → SessionView → Type 0
+IsRead p x view shard key rows cut y = IsAnswered p x (read x.session view key rows cut) (with_floor x.floors view shard cut) y
+
+-- a fence ended with these cuts, which are the session's floors then
+abbrev pub IsEnded : Layout → SessionView → List PlaceView → Floors → SessionView → Type 0
+IsEnded p x own cuts y = IsAnswered p x (fence x.session own cuts) cuts y
 
 -- the session is as it was, and its word was seen to have moved
 pub record IsStolen (p : Layout) (x y : SessionView) : Type 0 where
-  pub session : y.session ≡ x.session
-  pub answered : y.answered ≡ x.answered
-  pub same : y.floors ≡ x.floors
+  pub stays : y ≡ record x { seen = y.seen }
   pub grown : IsPrefix x.seen y.seen
   pub more : y.answered < own_items p y.session y.seen
 

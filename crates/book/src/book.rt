@@ -24,6 +24,10 @@ impl Opening<Plan, LogPage> for First {
     ghost log = { λ count plan. opens plan (count - base_count plan) ∷ [] };
 }
 
+/// A word was found to have moved: others added an item to it, and nothing was added now.
+#[derive(Drop)]
+pub struct Moved;
+
 /// A book with no item, which has no name yet.
 #[derive(Drop)]
 pub struct Opened {

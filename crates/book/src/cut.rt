@@ -133,15 +133,16 @@ impl<J: Naming> Cut<J> {
         })
     }
 
-    /// Its lengths.
+    /// Its lengths, which were reached in what was seen: one for each stage shard and source.
     pub fn lengths(&self) -> &Lengths
         ensures lengths { result.now ≡ self.now.lengths }
+        ensures within { IsWithin J.plan self.now.seen self.now.lengths }
     {
         &self.lengths
     }
 
-    /// A copy. Errors: memory only.
-    pub fn again(&self, alloc: Global) -> Result<Cut<J>, AllocError>
+    /// A copy. Errors: memory only. Cost: that of its lengths.
+    pub fn try_clone(&self, alloc: Global) -> Result<Cut<J>, AllocError>
         ensures { IfOk result (λ c. c ≡ self.now) }
     {
         Ok(Cut {
@@ -173,14 +174,6 @@ impl<J: Naming> Cut<J> {
             fronts.push(part.front(*base))?;
         }
         Cut::even(alloc, plan, part, fronts.as_slice())
-    }
-
-    /// Its lengths were reached in what was seen, and it has one for each stage shard and source.
-    /// This is no step of the run.
-    pub fn is_within(&self)
-        ensures { IsWithin J.plan self.now.seen self.now.lengths }
-    {
-        let _lengths = &self.lengths;
     }
 
     /// The front of a source at a stage shard.

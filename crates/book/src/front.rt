@@ -1,17 +1,14 @@
 //! Fronts: what is known of one log.
-ghost use Rattle.std.specs.Prelude.{◌≡◌, ℕ, ◌+◌, ◌<◌, ◌≤◌, [], ◌∷◌, length, true, MatchBool};
+ghost use Rattle.std.specs.Prelude.{◌≡◌, ℕ, ◌+◌, ◌<◌, ◌≤◌, [], ◌∷◌, length, OnErr, OnOk};
 ghost use mathlib.Core.List.{IsPrefix};
-ghost use Rattle.row.specs.Bags.{Each};
-ghost use Rattle.row.specs.Cells.{shard};
 ghost use Rattle.model.specs.Entries.{change_of};
-ghost use Rattle.book.specs.Fronts.{FrontView, entries, authors, IsAppended, IsMoved};
-ghost use Rattle.model.specs.Histories.{Author, log_of};
-ghost use Rattle.model.specs.Legal.{limit, IsLegal};
-ghost use Rattle.model.specs.Logs.{fits, key_of, lawful};
+ghost use Rattle.book.specs.Fronts.{FrontView, entries, authors, IsAppended, IsMoved, MayAppend};
+ghost use Rattle.model.specs.Histories.{log_of};
+ghost use Rattle.model.specs.Legal.{IsLegal};
 ghost use Rattle.book.specs.Pages.{opens, IsLogOf, history_of};
-ghost use Rattle.model.specs.Places.{base_count, layout_of, shard_of};
+ghost use Rattle.model.specs.Places.{base_count};
 
-use crate::book::Book;
+use crate::book::{Book, Moved};
 use crate::law::{Add, Law, LogPage, Naming};
 use crate::part::Part;
 use crate::step::{learn, look_at, try_add};
@@ -129,8 +126,7 @@ impl<J: Naming> Front<J> {
 
     /// Sees the log as it is, and says how long it is. The front stays.
     pub fn look(&mut self, book: &Book<J>) -> u64
-        ensures base { self.new.base ≡ self.old.base }
-        ensures len { self.new.len ≡ self.old.len }
+        ensures stays { self.new ≡ record self.old { seen = self.new.seen } }
         ensures seen { IsPrefix self.old.seen self.new.seen }
         ensures entries { entries self.new ≡ entries self.old }
         ensures authors { authors self.new ≡ authors self.old }
@@ -139,16 +135,18 @@ impl<J: Naming> Front<J> {
         look_at(book, self.base, &mut self.seen)
     }
 
-    /// Adds an entry at the end of the log, and says whether it did. It did not where the log has
-    /// moved.
-    pub fn append(&mut self, book: &Book<J>, session: u64, number: u64, entry: &Entry) -> bool
-        requires fits { fits (layout_of J.plan self.old.base) (change_of entry.now) ≡ true }
-        requires shard { shard_of J.plan self.old.base ≡ shard (key_of (layout_of J.plan self.old.base).key (change_of entry.now)) (layout_of J.plan self.old.base).shards }
-        requires lawful { lawful (layout_of J.plan self.old.base).key (entries self.old) (change_of entry.now) ≡ true }
-        requires room { self.old.len < limit }
-        requires number { Each (λ (a : Author). a.session ≡ session → a.number < number) (authors self.old) }
-        ensures legal { IsLegal J.plan J.sessions self.new.seen }
-        ensures told { MatchBool result (IsAppended J.plan self.old session number (change_of entry.now) self.new) (IsMoved self.old self.new) }
+    /// Adds an entry at the end of the log. Errors: where the log has moved; then nothing was
+    /// added. Cost: one exchange of the base shard's word.
+    pub fn append(
+        &mut self,
+        book: &Book<J>,
+        session: u64,
+        number: u64,
+        entry: &Entry,
+    ) -> Result<(), Moved>
+        requires { MayAppend J.plan self.old session number (change_of entry.now) }
+        ensures appended { OnOk result (IsAppended J.plan self.old session number (change_of entry.now) self.new) }
+        ensures moved { OnErr result (IsMoved self.old self.new) }
     {
         let asked = Writing {
             session,
@@ -157,12 +155,8 @@ impl<J: Naming> Front<J> {
             entry,
         };
         let len = self.len;
-        let found = try_add::<J, Writing, Add>(book, self.base, len, &mut self.seen, &asked);
-        if found == len {
-            self.len = len + 1;
-            true
-        } else {
-            false
-        }
+        try_add::<J, Writing, Add>(book, self.base, len, &mut self.seen, &asked)?;
+        self.len = len + 1;
+        Ok(())
     }
 }

@@ -1,15 +1,9 @@
 //! Replies of a base shard, and what a session knows from them.
 ghost use Rattle.std.specs.Prelude.{◌≡◌, ◌+◌, ◌<◌, ◌≤◌, length, MatchBool, IfSome, IsSome, IsTrue, IfOk, IfErr, ℕ, slice_get, Some, true};
 ghost use mathlib.Core.List.{IsPrefix};
-ghost use Rattle.row.specs.Bags.{Each};
-ghost use Rattle.row.specs.Cells.{shard};
 ghost use Rattle.model.specs.Entries.{change_of};
-ghost use Rattle.book.specs.Fronts.{IsAppended, IsMoved, entries, authors};
-ghost use Rattle.model.specs.Histories.{Author, log_of, authors_of, write};
-ghost use Rattle.model.specs.Legal.{limit};
-ghost use Rattle.model.specs.Logs.{fits, key_of, lawful};
-ghost use Rattle.model.specs.Places.{layout_of, shard_of};
-ghost use Rattle.book.specs.Replies.{WrittenView, IsAfter, IsWhole, longer};
+ghost use Rattle.book.specs.Fronts.{IsMoved, MayAppend};
+ghost use Rattle.book.specs.Replies.{WrittenView, HasLogOf, IsAccepted, IsNews, IsReplyTo, IsWhole};
 
 use crate::book::Book;
 use crate::front::Front;
@@ -48,8 +42,8 @@ impl<J: Naming> Model for Written<J> {
 impl<J: Naming> Written<J> {
     /// Whether it is the reply to this write. Cost: the length of the entry.
     pub fn is_of(&self, session: u64, number: u64, base: usize, entry: &Entry) -> bool
-        ensures same { IsTrue result → (self.now.session ≡ session) × (self.now.number ≡ number) × (self.now.base ≡ base) × (self.now.entry ≡ change_of entry.now) }
-        ensures sure { (self.now.session ≡ session) → (self.now.number ≡ number) → (self.now.base ≡ base) → (self.now.entry ≡ change_of entry.now) → IsTrue result }
+        ensures same { IsTrue result → IsReplyTo session number base (change_of entry.now) self.now }
+        ensures sure { IsReplyTo session number base (change_of entry.now) self.now → IsTrue result }
     {
         self.session == session
             && self.number == number
@@ -66,7 +60,7 @@ impl<J: Naming> Written<J> {
 }
 
 impl<J: Naming> Front<J> {
-    /// Appends, and gives the reply; or the entry back where the log has moved.
+    /// Appends, and gives the reply. Errors: where the log has moved; then the entry comes back.
     pub fn write(
         &mut self,
         book: &Book<J>,
@@ -74,18 +68,14 @@ impl<J: Naming> Front<J> {
         number: u64,
         entry: Entry,
     ) -> Result<Written<J>, Entry>
-        requires fits { fits (layout_of J.plan self.old.base) (change_of entry) ≡ true }
-        requires shard { shard_of J.plan self.old.base ≡ shard (key_of (layout_of J.plan self.old.base).key (change_of entry)) (layout_of J.plan self.old.base).shards }
-        requires lawful { lawful (layout_of J.plan self.old.base).key (entries self.old) (change_of entry) ≡ true }
-        requires room { self.old.len < limit }
-        requires number { Each (λ (a : Author). a.session ≡ session → a.number < number) (authors self.old) }
-        ensures accepted { IfOk result (λ w. IsAppended J.plan self.old session number (change_of entry) self.new × (w ≡ record { session = session; number = number; base = self.old.base; index = self.old.len; entry = change_of entry; seen = self.new.seen })) }
+        requires { MayAppend J.plan self.old session number (change_of entry) }
+        ensures accepted { IfOk result (λ w. IsAccepted J.plan self.old session number (change_of entry) self.new w) }
         ensures moved { IfErr result (λ e. IsMoved self.old self.new × (e ≡ entry)) }
     {
         let index = self.len;
-        if !self.append(book, session, number, &entry) {
+        let Ok(()) = self.append(book, session, number, &entry) else {
             return Err(entry);
-        }
+        };
         Ok(Written {
             session,
             number,
@@ -99,7 +89,7 @@ impl<J: Naming> Front<J> {
 
     /// Sees the log as it is, and takes all of it.
     pub fn catch_up(&mut self, book: &Book<J>)
-        ensures base { self.new.base ≡ self.old.base }
+        ensures stays { self.new ≡ record self.old { len = self.new.len; seen = self.new.seen } }
         ensures seen { IsPrefix self.old.seen self.new.seen }
         ensures whole { IsWhole self.new }
     {
@@ -111,10 +101,9 @@ impl<J: Naming> Front<J> {
     pub fn settle(&mut self, reply: &Written<J>) -> bool
         requires whole { IsWhole self.old }
         requires base { self.old.base ≡ reply.now.base }
-        ensures base { self.new.base ≡ self.old.base }
-        ensures len { self.new.len ≡ self.old.len }
+        ensures stays { self.new ≡ record self.old { seen = self.new.seen } }
         ensures sure { self.old.len ≤ reply.now.index → IsTrue result }
-        ensures told { MatchBool result (IsAfter self.old.seen (write reply.now.session reply.now.number reply.now.base reply.now.entry) reply.now.base reply.now.index self.new.seen) (self.new ≡ self.old) }
+        ensures told { MatchBool result (IsNews self.old.seen reply.now self.new.seen) (self.new ≡ self.old) }
     {
         if reply.index < self.len {
             return false;
@@ -130,7 +119,8 @@ impl<J: Naming> Front<J> {
         requires other { IsWhole other }
         requires base { self.base ≡ other.base }
         ensures sure { self.len ≤ other.len → IsSome result }
-        ensures told { IfSome result (λ p. IsPrefix self.seen p × IsPrefix other.seen p × (log_of other.base p ≡ log_of other.base other.seen) × (authors_of other.base p ≡ authors_of other.base other.seen)) }
+        ensures seen { IfSome result (λ p. IsPrefix self.seen p × IsPrefix other.seen p) }
+        ensures told { IfSome result (λ p. HasLogOf other p) }
     {
         if other.len < self.len {
             return None;

@@ -1,17 +1,17 @@
 //! The word of a session.
-ghost use Rattle.std.specs.Prelude.{◌≡◌, ◌+◌, ◌<◌, ◌≤◌, ◌^◌, ◌⊎◌, length, MatchBool, slice_get, Some, IfOk, ℕ, []};
+ghost use Rattle.std.specs.Prelude.{◌≡◌, ◌+◌, ◌<◌, ◌≤◌, ◌^◌, ◌⊎◌, length, None, OnErr, OnOk, IfOk, ℕ, []};
 ghost use mathlib.Core.List.{IsPrefix};
 ghost use Rattle.row.specs.Bags.{Each};
 ghost use Rattle.row.specs.Cells.{datum_of};
 ghost use Rattle.plan.specs.Layouts.{view_at};
 ghost use Rattle.model.specs.Cuts.{IsAtMost};
-ghost use Rattle.model.specs.Histories.{floor_at, read, fence, view_shard};
+ghost use Rattle.model.specs.Histories.{floor_at, view_shard};
 ghost use Rattle.model.specs.Legal.{IsOwn, IsPast, IsLegal, EachShard};
 ghost use Rattle.model.specs.Queries.{answer as answer_of};
-ghost use Rattle.book.specs.Sessions.{fronts, IsAnswered, IsStolen};
-ghost use Rattle.model.specs.Tables.{with_floor, places_of};
+ghost use Rattle.book.specs.Sessions.{fronts, IsEnded, IsOwnAsk, IsOwnDone, IsRead, IsStolen};
+ghost use Rattle.model.specs.Tables.{places_of};
 
-use crate::book::Book;
+use crate::book::{Book, Moved};
 use crate::cut::{Cut, Cuts};
 use crate::front::Front;
 use crate::law::{Add, Law, LogPage, Naming};
@@ -114,6 +114,7 @@ impl<J: Naming> SessionWord<J> {
     /// All that it has seen.
     pub fn part(&self) -> Part<J>
         ensures part { result ≡ self.now.seen }
+        ensures legal { IsLegal J.plan J.sessions self.now.seen }
     {
         Part::of(&self.seen)
     }
@@ -122,9 +123,7 @@ impl<J: Naming> SessionWord<J> {
     pub fn learn(&mut self, part: &Part<J>)
         ensures seen { IsPrefix self.old.seen self.new.seen }
         ensures others { IsPrefix part.now self.new.seen }
-        ensures floors { self.new.floors ≡ self.old.floors }
-        ensures answered { self.new.answered ≡ self.old.answered }
-        ensures session { self.new.session ≡ self.old.session }
+        ensures stays { self.new ≡ record self.old { seen = self.new.seen } }
     {
         learn::<J>(&mut self.seen, &part.whole());
     }
@@ -136,8 +135,23 @@ impl<J: Naming> SessionWord<J> {
         self.number
     }
 
-    /// Answers a read over a cut, and says whether it did. It did not where the session's word has
-    /// moved.
+    // Adds what is asked for to the session's word. The caller then counts the answer and sets the
+    // floors.
+    fn add<X, M: Plain<X, LogPage, u64>>(&mut self, book: &Book<J>, asked: &X) -> Result<(), Moved>
+        requires ask { IsOwnAsk J.plan J.sessions self.old (M.ask asked.now) }
+        requires fresh { M.state asked.now ≡ None }
+        requires room { self.old.answered + 1 < 2 ^ 64 }
+        ensures stays { self.new ≡ record self.old { seen = self.new.seen } }
+        ensures grown { IsPrefix self.old.seen self.new.seen }
+        ensures done { OnOk result (IsOwnDone J.plan self.old (M.ask asked.now) self.new.seen) }
+        ensures stolen { OnErr result (IsStolen J.plan self.old self.new) }
+    {
+        let word = book.bases() + self.number;
+        try_add::<J, X, M>(book, word, self.answered, &mut self.seen, asked)
+    }
+
+    /// Answers a read over a cut. Errors: where the session's word has moved; then nothing was
+    /// answered. Cost: one exchange of the session's word.
     pub fn answer(
         &mut self,
         book: &Book<J>,
@@ -146,16 +160,16 @@ impl<J: Naming> SessionWord<J> {
         key: &Value,
         rows: &Vec<Row>,
         cut: Cut<J>,
-    ) -> bool
+    ) -> Result<(), Moved>
         requires view { view < length J.plan.views }
         requires shard { shard ≡ view_shard J.plan view (datum_of key.now) }
         requires within { shard < (view_at J.plan view).shards }
         requires floor { IsAtMost (floor_at self.old.floors view shard) cut.lengths }
         requires rows { rows.now.items ≡ answer_of J.plan (fronts J.plan cut) view (datum_of key.now) }
         requires room { self.old.answered + 1 < 2 ^ 64 }
-        ensures legal { IsLegal J.plan J.sessions self.new.seen }
         ensures others { IsPrefix cut.seen self.new.seen }
-        ensures told { MatchBool result (IsAnswered J.plan self.old (read self.old.session view (datum_of key.now) rows.now.items cut.lengths) (with_floor self.old.floors view shard cut.lengths) self.new) (IsStolen J.plan self.old self.new) }
+        ensures answered { OnOk result (IsRead J.plan self.old view shard (datum_of key.now) rows.now.items cut.lengths self.new) }
+        ensures stolen { OnErr result (IsStolen J.plan self.old self.new) }
     {
         let Cut {
             lengths,
@@ -163,7 +177,6 @@ impl<J: Naming> SessionWord<J> {
             of: _,
         } = cut;
         learn::<J>(&mut self.seen, &seen);
-        let key_of_word = book.bases() + self.number;
         let asked = Reading {
             session: self.number,
             view,
@@ -171,27 +184,22 @@ impl<J: Naming> SessionWord<J> {
             rows,
             cut: &lengths,
         };
-        let answered = self.answered;
-        let found = try_add::<J, Reading, Add>(book, key_of_word, answered, &mut self.seen, &asked);
-        if found == answered {
-            self.answered = answered + 1;
-            self.floors.set(view, shard, lengths);
-            true
-        } else {
-            false
-        }
+        self.add::<Reading, Add>(book, &asked)?;
+        self.answered += 1;
+        self.floors.set(view, shard, lengths);
+        Ok(())
     }
 
-    /// Ends a fence with a cut for each shard of each view, and says whether it did. It did not
-    /// where the session's word has moved.
-    pub fn fence(&mut self, book: &Book<J>, own: &Vec<Place>, cuts: Cuts<J>) -> bool
+    /// Ends a fence with a cut for each shard of each view. Errors: where the session's word has
+    /// moved; then the fence has not ended. Cost: one exchange of the session's word.
+    pub fn fence(&mut self, book: &Book<J>, own: &Vec<Place>, cuts: Cuts<J>) -> Result<(), Moved>
         requires floors { EachShard J.plan (λ v j. IsAtMost (floor_at self.old.floors v j) (floor_at cuts.floors v j)) }
         requires past { EachShard J.plan (λ v j. Each (IsPast J.plan (floor_at cuts.floors v j)) (places_of own.now.items)) }
         requires own { Each (IsOwn J.plan self.old.seen self.old.session) (places_of own.now.items) }
         requires room { self.old.answered + 1 < 2 ^ 64 }
-        ensures legal { IsLegal J.plan J.sessions self.new.seen }
         ensures others { IsPrefix cuts.seen self.new.seen }
-        ensures told { MatchBool result (IsAnswered J.plan self.old (fence self.old.session (places_of own.now.items) cuts.floors) cuts.floors self.new) (IsStolen J.plan self.old self.new) }
+        ensures fenced { OnOk result (IsEnded J.plan self.old (places_of own.now.items) cuts.floors self.new) }
+        ensures stolen { OnErr result (IsStolen J.plan self.old self.new) }
     {
         let Cuts {
             floors,
@@ -199,20 +207,14 @@ impl<J: Naming> SessionWord<J> {
             of: _,
         } = cuts;
         learn::<J>(&mut self.seen, &seen);
-        let key_of_word = book.bases() + self.number;
         let asked = Fencing {
             session: self.number,
             own,
             floors: &floors,
         };
-        let answered = self.answered;
-        let found = try_add::<J, Fencing, Add>(book, key_of_word, answered, &mut self.seen, &asked);
-        if found == answered {
-            self.answered = answered + 1;
-            self.floors = floors;
-            true
-        } else {
-            false
-        }
+        self.add::<Fencing, Add>(book, &asked)?;
+        self.answered += 1;
+        self.floors = floors;
+        Ok(())
     }
 }

@@ -1,11 +1,11 @@
 //! The three kinds of step on a shared book.
-ghost use Rattle.std.specs.Prelude.{◌≡◌, ◌+◌, ◌<◌, ◌≤◌, ◌^◌, None};
+ghost use Rattle.std.specs.Prelude.{◌≡◌, ◌+◌, ◌<◌, ◌≤◌, ◌^◌, None, OnErr, OnOk};
 ghost use mathlib.Core.List.{IsPrefix};
-ghost use Rattle.book.specs.Pages.{IsLogOf, IsAsk, IsTry, history_of};
+ghost use Rattle.book.specs.Pages.{IsLogOf, IsAsk, IsDone, history_of};
 ghost use Rattle.model.specs.Places.{base_count};
 ghost use Rattle.book.specs.Words.{count_at};
 
-use crate::book::Book;
+use crate::book::{Book, Moved};
 use crate::law::{Add, Law, LogPage, Look, Naming, Nothing};
 use logbook::{Offer, Plain, Seen};
 
@@ -16,20 +16,24 @@ pub(crate) fn try_add<J: Naming, X, M: Plain<X, LogPage, u64>>(
     old: u64,
     seen: &mut Seen<LogPage, u64, Law>,
     asked: &X,
-) -> u64
+) -> Result<(), Moved>
     requires book { seen.old.book ≡ J.book }
     requires of { IsLogOf J.plan J.sessions seen.old.log }
     requires ask { IsAsk J.plan J.sessions key old (history_of seen.old.log) (M.ask asked.now) }
     requires fresh { M.state asked.now ≡ None }
     requires room { old + 1 < 2 ^ 64 }
     ensures book { seen.new.book ≡ J.book }
+    ensures of { IsLogOf J.plan J.sessions seen.new.log }
     ensures grown { IsPrefix seen.old.log seen.new.log }
-    ensures told { IsTry J.plan J.sessions key old (M.ask asked.now) result seen.old.log seen.new.log }
+    ensures done { OnOk result (IsDone J.plan key old (M.ask asked.now) (history_of seen.old.log) (history_of seen.new.log)) }
+    ensures moved { OnErr result (old < count_at J.plan key (history_of seen.new.log)) }
 {
     let mut offer: Offer<LogPage, u64, Law, Nothing> = seen.plain::<Nothing, X, M>(asked);
     let mut pen = seen.no_pen();
-    book.word(key)
-        .compare_exchange::<Add, Nothing>(old, old + 1, seen, &mut offer, &mut pen)
+    let found = book
+        .word(key)
+        .compare_exchange::<Add, Nothing>(old, old + 1, seen, &mut offer, &mut pen);
+    if found == old { Ok(()) } else { Err(Moved) }
 }
 
 /// One load of one word.

@@ -80,8 +80,8 @@ pub domain_next : (p : Layout) (sh new : Shard) (f g : FrontView) (next : List �
     → IsDomain p new g (slice_set next s (m + 1))
 domain_next p sh new f g next s m e d a at key room within low = record {
   at = subst (λ (l : List Change). IsAt new l) (sym a.entries) at;
-  len = a.len ∙ (ap (λ n. n + 1) d.len ∙ (sym (length_push (entries f) e) ∙ ap length (sym a.entries)));
-  key = key ∙ (d.key ∙ ap (λ b. (layout_of p b).key) (sym a.base));
+  len = ap (λ (x : FrontView). x.len) a.stays ∙ (ap (λ n. n + 1) d.len ∙ (sym (length_push (entries f) e) ∙ ap length (sym a.entries)));
+  key = key ∙ (d.key ∙ ap (λ b. (layout_of p b).key) (sym (ap (λ (x : FrontView). x.base) a.stays)));
   room = room ∙ d.room;
   numbers = subst (λ (list : List Author). Each (IsBelow (slice_set next s (m + 1))) list) (sym a.authors) (numbers_next next s m (authors f) within low d.numbers);
 }

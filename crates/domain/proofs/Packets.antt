@@ -28,8 +28,8 @@ module _ (p : Layout) (f g to : FrontView) (s m : ℕ) (e : Change) (n key : ℕ
       → Turns (rows_of key (entries f)) records (rows_of key (entries f ++ e ∷ []))
       → IsTruePacket p (record { from = n; to = to; changes = records })
   packet_true from is own whole a t = rw is (record {
-    within = omega (arith, from, a.len);
-    turns = turned key (layout_of p g.base).key (entries f) (take n (entries g)) (entries g) e records (ap (λ b. (layout_of p b).key) a.base ∙ sym own) (ap (take n) a.entries ∙ before (entries f) n e (from ∙ whole)) a.entries t;
+    within = omega (arith, from, ap (λ (x : FrontView). x.len) a.stays);
+    turns = turned key (layout_of p g.base).key (entries f) (take n (entries g)) (entries g) e records (ap (λ (x : FrontView). (layout_of p x.base).key) a.stays ∙ sym own) (ap (take n) a.entries ∙ before (entries f) n e (from ∙ whole)) a.entries t;
   })
 
   pub sends : (k : PacketView) → k ≡ record { from = n; to = to; changes = records } → n ≡ f.len → to ≡ g → key ≡ (layout_of p f.base).key → IsAppended p f s m e g

@@ -123,10 +123,11 @@ fn adds<J: Naming>(
     fronts.push(front.again())?;
     if let Scene::Fence = scene {
         let cuts = Cuts::even(alloc, plan, &front.part(), fronts.as_slice())?;
-        Ok(word.fence(book, &Vec::new(alloc), cuts))
+        Ok(word.fence(book, &Vec::new(alloc), cuts).is_ok())
     } else {
         let cut = Cut::even(alloc, plan, &front.part(), fronts.as_slice())?;
-        Ok(word.answer(book, 0, 0, &Value::Int(7), &Vec::new(alloc), cut))
+        let answered = word.answer(book, 0, 0, &Value::Int(7), &Vec::new(alloc), cut);
+        Ok(answered.is_ok())
     }
 }
 
@@ -153,7 +154,7 @@ fn has_zeros<J: Naming>(alloc: Global, plan: &Plan, front: &Front<J>) -> Result<
     requires plan { plan.now ≡ J.plan }
 {
     let cut = Cut::zeros(alloc, plan, &front.part())?;
-    let copy = cut.again(alloc)?;
+    let copy = cut.try_clone(alloc)?;
     Ok(copy.agrees(&cut) && is_printed(alloc, copy.lengths(), "0")?)
 }
 

@@ -124,13 +124,14 @@ impl<J: Naming> Session<J> {
             return Err(Refused::NoMemory);
         };
         self.word.learn(&self.seen);
-        if self.word.fence(self.shared.book(), &own, cuts) {
-            self.seen = self.word.part();
-            Ok(())
-        } else {
-            self.seen = self.word.part();
-            self.stolen = true;
-            Err(Refused::Stolen)
+        let fenced = self.word.fence(self.shared.book(), &own, cuts);
+        self.seen = self.word.part();
+        match fenced {
+            Ok(()) => Ok(()),
+            Err(_) => {
+                self.stolen = true;
+                Err(Refused::Stolen)
+            }
         }
     }
 

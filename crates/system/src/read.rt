@@ -107,18 +107,18 @@ impl<J: Naming> Session<J> {
         ensures refused { IfErr result (λ e. IsUnread self.old self.new e) }
     {
         let lengths = cut.lengths().again(alloc)?;
-        cut.is_within();
         self.number += 1;
         self.word.learn(&self.seen);
         let answered = self
             .word
             .answer(self.shared.book(), view, 0, key, &rows, cut);
         self.seen = self.word.part();
-        if answered {
-            Ok(Answer { rows, cut: lengths })
-        } else {
-            self.stolen = true;
-            Err(Refused::Stolen)
+        match answered {
+            Ok(()) => Ok(Answer { rows, cut: lengths }),
+            Err(_) => {
+                self.stolen = true;
+                Err(Refused::Stolen)
+            }
         }
     }
 

@@ -1,6 +1,7 @@
 //! The store as it runs: its threads, and the sessions that it gives.
-ghost use Rattle.std.specs.Prelude.{◌≡◌, ◌⊎◌, ◌+◌, ◌<◌, ◌≤◌, ℕ, false, IfOk, OnOk, IfErr, Err, OnErr, length, drop as dropped, []};
+ghost use Rattle.std.specs.Prelude.{◌≡◌, ◌⊎◌, ◌+◌, ◌<◌, ◌≤◌, ℕ, false, IfOk, OnOk, IfErr, Err, OnErr, length, []};
 ghost use Rattle.system.specs.Served.{IsSingle};
+ghost use Rattle.view.specs.Boards.{pending, shown};
 ghost use Rattle.plan.specs.Layouts.{table_at};
 ghost use Rattle.model.specs.Histories.{floor_at};
 
@@ -125,16 +126,16 @@ impl<J: Naming + Send + Sync + 'static> System<J> {
         alloc: Global,
         writer: ShownWriter<J, R>,
     ) -> Result<(), Refused>
-        requires of { (writer.writer.desk.shown.value.view ≡ 0) × (writer.writer.desk.shown.value.shard ≡ 0) }
-        requires pending { dropped writer.writer.behind writer.writer.log.items ≡ [] }
+        requires of { ((shown writer).view ≡ 0) × ((shown writer).shard ≡ 0) }
+        requires pending { pending writer ≡ [] }
         ensures only { IfErr result (λ e. e ≡ Refused.NoMemory) }
         ensures given { self.new ≡ self.old }
     {
         let shared = Arc::try_clone(&self.shared)?;
         let work = move ||
             requires single { IsSingle J.plan }
-            requires of { (writer.writer.desk.shown.value.view ≡ 0) × (writer.writer.desk.shown.value.shard ≡ 0) }
-            requires pending { dropped writer.writer.behind writer.writer.log.items ≡ [] }
+            requires of { ((shown writer).view ≡ 0) × ((shown writer).shard ≡ 0) }
+            requires pending { pending writer ≡ [] }
         { view_work(&rt, alloc, &shared, writer) };
         match thread::spawn(&rt, work) {
             Ok(worker) => self.view_worker = Some(worker),

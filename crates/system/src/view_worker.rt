@@ -1,9 +1,10 @@
 //! The thread of a view's shard.
-ghost use Rattle.std.specs.Prelude.{◌≡◌, ◌≢◌, ◌⊎◌, [], true, false, drop as dropped, IfOk, OnOk, IfErr, OnErr, IsTrue, IfSome, IsSome, Some, None};
+ghost use Rattle.std.specs.Prelude.{◌≡◌, ◌≢◌, ◌⊎◌, [], true, false, IfOk, OnOk, IfErr, OnErr, IsTrue, IfSome, IsSome, Some, None};
 ghost use Rattle.model.specs.Tables.{with_length};
 ghost use Rattle.model.specs.Histories.{len_at};
 ghost use Rattle.system.specs.Messages.{OnMarker, OnPacket};
 ghost use Rattle.system.specs.Served.{IsSingle};
+ghost use Rattle.view.specs.Boards.{pending, shown};
 
 use crate::shared::{Ack, Shared, ToView};
 use book::cut::Cut;
@@ -26,8 +27,8 @@ pub fn view_work<J: Naming, R: Wait + Drop>(
     mut writer: ShownWriter<J, R>,
 )
     requires single { IsSingle J.plan }
-    requires of { (writer.writer.desk.shown.value.view ≡ 0) × (writer.writer.desk.shown.value.shard ≡ 0) }
-    requires pending { dropped writer.writer.behind writer.writer.log.items ≡ [] }
+    requires of { ((shown writer).view ≡ 0) × ((shown writer).shard ≡ 0) }
+    requires pending { pending writer ≡ [] }
 {
     let mut running = true;
     for _ in rt.forever() {
@@ -53,15 +54,15 @@ fn take<J: Naming, R: Wait + Drop>(
 ) -> (bool, Option<Ack>)
     requires plan { plan.now ≡ J.plan }
     requires single { IsSingle J.plan }
-    requires of { (writer.old.writer.desk.shown.value.view ≡ 0) × (writer.old.writer.desk.shown.value.shard ≡ 0) }
-    requires pending { running ≡ true → dropped writer.old.writer.behind writer.old.writer.log.items ≡ [] }
-    ensures of { (writer.new.writer.desk.shown.value.view ≡ 0) × (writer.new.writer.desk.shown.value.shard ≡ 0) }
-    ensures pending { result.0 ≡ true → dropped writer.new.writer.behind writer.new.writer.log.items ≡ [] }
+    requires of { ((shown writer.old).view ≡ 0) × ((shown writer.old).shard ≡ 0) }
+    requires pending { running ≡ true → pending writer.old ≡ [] }
+    ensures of { ((shown writer.new).view ≡ 0) × ((shown writer.new).shard ≡ 0) }
+    ensures pending { result.0 ≡ true → pending writer.new ≡ [] }
     ensures stays { result.0 ≡ true → running ≡ true }
-    ensures shown { OnPacket (λ k. result.0 ≡ true → (len_at writer.old.writer.desk.shown.value.cut.lengths 0 0 ≡ k.from) × (writer.new.writer.desk.shown.value.cut.lengths ≡ with_length writer.old.writer.desk.shown.value.cut.lengths 0 0 k.to.len)) message }
-    ensures stopped { OnPacket (λ k. result.0 ≡ false → writer.new.writer.desk.shown.value ≡ writer.old.writer.desk.shown.value) message }
+    ensures shown { OnPacket (λ k. result.0 ≡ true → (len_at (shown writer.old).cut.lengths 0 0 ≡ k.from) × ((shown writer.new).cut.lengths ≡ with_length (shown writer.old).cut.lengths 0 0 k.to.len)) message }
+    ensures stopped { OnPacket (λ k. result.0 ≡ false → shown writer.new ≡ shown writer.old) message }
     ensures unacknowledged { OnPacket (λ k. result.1 ≡ None) message }
-    ensures acknowledged { OnMarker (λ m. (result.1 ≡ Some (record { marker = m; running = running })) × (writer.new.writer.desk.shown.value ≡ writer.old.writer.desk.shown.value) × (result.0 ≡ running)) message }
+    ensures acknowledged { OnMarker (λ m. (result.1 ≡ Some (record { marker = m; running = running })) × (shown writer.new ≡ shown writer.old) × (result.0 ≡ running)) message }
 {
     match message {
         ToView::Packet(packet) => (running && show(alloc, plan, writer, packet).is_ok(), None),
@@ -79,14 +80,14 @@ fn show<J: Naming, R: Wait + Drop>(
 ) -> Result<(), Refused>
     requires plan { plan.now ≡ J.plan }
     requires single { IsSingle J.plan }
-    requires of { (writer.old.writer.desk.shown.value.view ≡ 0) × (writer.old.writer.desk.shown.value.shard ≡ 0) }
-    requires pending { dropped writer.old.writer.behind writer.old.writer.log.items ≡ [] }
-    ensures of { (writer.new.writer.desk.shown.value.view ≡ 0) × (writer.new.writer.desk.shown.value.shard ≡ 0) }
-    ensures pending { OnOk result (dropped writer.new.writer.behind writer.new.writer.log.items ≡ []) }
-    ensures starts { OnOk result (len_at writer.old.writer.desk.shown.value.cut.lengths 0 0 ≡ packet.from) }
-    ensures shown { OnOk result (writer.new.writer.desk.shown.value.cut.lengths ≡ with_length writer.old.writer.desk.shown.value.cut.lengths 0 0 packet.to.len) }
-    ensures err { OnErr result (writer.new.writer.desk.shown.value ≡ writer.old.writer.desk.shown.value) }
-    ensures why { IfErr result (λ e. (e ≡ Refused.NoMemory) ⊎ (e ≡ Refused.Gap) × (len_at writer.old.writer.desk.shown.value.cut.lengths 0 0 ≢ packet.from)) }
+    requires of { ((shown writer.old).view ≡ 0) × ((shown writer.old).shard ≡ 0) }
+    requires pending { pending writer.old ≡ [] }
+    ensures of { ((shown writer.new).view ≡ 0) × ((shown writer.new).shard ≡ 0) }
+    ensures pending { OnOk result (pending writer.new ≡ []) }
+    ensures starts { OnOk result (len_at (shown writer.old).cut.lengths 0 0 ≡ packet.from) }
+    ensures shown { OnOk result ((shown writer.new).cut.lengths ≡ with_length (shown writer.old).cut.lengths 0 0 packet.to.len) }
+    ensures err { OnErr result (shown writer.new ≡ shown writer.old) }
+    ensures why { IfErr result (λ e. (e ≡ Refused.NoMemory) ⊎ (e ≡ Refused.Gap) × (len_at (shown writer.old).cut.lengths 0 0 ≢ packet.from)) }
 {
     let delta = delta_of(alloc, plan, writer.cut(), packet)?;
     writer.append(delta)?;
@@ -113,10 +114,9 @@ fn delta_of<J: Naming>(
     if cut.lengths().len(0, 0) != packet.from() {
         return Err(Refused::Gap);
     }
-    let before = cut.again(alloc)?;
-    let mut after = cut.again(alloc)?;
-    // The facts of the cut and of the packet: both are within one history.
-    cut.is_within();
+    let before = cut.try_clone(alloc)?;
+    let mut after = cut.try_clone(alloc)?;
+    // The facts of the packet: its front is within one history.
     packet.to().len();
     packet.base();
     after.advance(0, 0, packet.to());

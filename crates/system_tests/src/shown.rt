@@ -1,10 +1,11 @@
 //! A shown copy of the notes by author.
-ghost use Rattle.std.specs.Prelude.{◌≡◌, ◌∷◌, List, [], IfOk, codes, drop as dropped, pos};
+ghost use Rattle.std.specs.Prelude.{◌≡◌, ◌∷◌, List, [], IfOk, codes, pos};
 ghost use Rattle.row.specs.Cells.{Cells, Datum, datum_of, int, text};
 ghost use Rattle.plan.specs.Recipes.{notes_plan};
 ghost use Rattle.book.specs.Fronts.{entries};
 ghost use Rattle.model.specs.Histories.{view_shard};
 ghost use Rattle.model.specs.Logs.{inserts};
+ghost use Rattle.view.specs.Boards.{pending, shown};
 ghost use Rattle.view.specs.Snapshots.{zero_lengths};
 
 use crate::calls::{fail, wrong};
@@ -60,10 +61,9 @@ fn first_delta<J: Naming>(
     ensures before { IfOk result (λ d. d.before.lengths ≡ zero_lengths J.plan) }
 {
     let entry = Entry::Insert(note(alloc, 1, 7)?);
-    if front.append(book, 0, 0, &entry) {
-        Ok(delta_to(alloc, plan, &front)?)
-    } else {
-        Err(wrong(0))
+    match front.append(book, 0, 0, &entry) {
+        Ok(()) => Ok(delta_to(alloc, plan, &front)?),
+        Err(_) => Err(wrong(0)),
     }
 }
 
@@ -76,7 +76,7 @@ fn delta_to<J: Naming>(alloc: Global, plan: &Plan, front: &Front<J>) -> Result<D
     ensures before { IfOk result (λ d. d.before.lengths ≡ zero_lengths J.plan) }
 {
     let before = Cut::zeros(alloc, plan, &front.part())?;
-    let mut after = before.again(alloc)?;
+    let mut after = before.try_clone(alloc)?;
     after.advance(0, 0, front);
     let changes = vec![in alloc; change(alloc, 1, Sign::Plus)?]?;
     Ok(Delta::new(0, 0, before, after, changes, 0))
@@ -89,9 +89,9 @@ fn show<J: Naming, R: Wait + Drop>(
     delta: Delta<J>,
 ) -> Result<(), Fail>
     requires notes { J.plan ≡ notes_plan }
-    requires of { (writer.old.writer.desk.shown.value.view ≡ 0) × (writer.old.writer.desk.shown.value.shard ≡ 0) }
-    requires zeros { writer.old.writer.desk.shown.value.cut.lengths ≡ zero_lengths J.plan }
-    requires pending { dropped writer.old.writer.behind writer.old.writer.log.items ≡ [] }
+    requires of { ((shown writer.old).view ≡ 0) × ((shown writer.old).shard ≡ 0) }
+    requires zeros { (shown writer.old).cut.lengths ≡ zero_lengths J.plan }
+    requires pending { pending writer.old ≡ [] }
     requires delta { (delta.view ≡ 0) × (delta.shard ≡ 0) × (delta.before.lengths ≡ zero_lengths J.plan) }
 {
     let mut reader = writer.reader()?;

@@ -1,3 +1,4 @@
 pub mod Snapshots
 pub mod Sights
 pub mod Looks
+pub mod Boards

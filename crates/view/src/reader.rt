@@ -157,7 +157,7 @@ fn cut_by<J: Naming>(
     match reader.enter_as::<Looks>() {
         Err(reader) => (reader, Err(Refused::NoMemory)),
         Ok(reading) => {
-            let cut = reading.get().cut().again(alloc);
+            let cut = reading.get().cut().try_clone(alloc);
             (reading.leave(), cut.map_err(|_| Refused::NoMemory))
         }
     }
@@ -173,7 +173,7 @@ fn found<J: Naming>(alloc: Global, shown: &Shown<J>, key: &Value) -> Result<Look
     let Some(rows) = shown.entry(key) else {
         return Ok(Look::Miss);
     };
-    Ok(Look::Hit(copies(alloc, rows)?, shown.cut().again(alloc)?))
+    Ok(Look::Hit(copies(alloc, rows)?, shown.cut().try_clone(alloc)?))
 }
 
 fn copies(alloc: Global, rows: &[Row]) -> Result<Vec<Row>, AllocError>

@@ -69,8 +69,8 @@ impl<J: Naming> Shown<J> {
         })
     }
 
-    /// The same over no entries, for a copy that has none. Errors: memory only.
-    pub fn twin(&self) -> Result<Shown<J>, AllocError>
+    /// A copy of one that has no entries. Errors: memory only.
+    pub fn empty_copy(&self) -> Result<Shown<J>, AllocError>
         requires zeros { self.now.cut.lengths ≡ zero_lengths J.plan }
         ensures { IfOk result (λ s. s ≡ self.now) }
     {
@@ -79,7 +79,7 @@ impl<J: Naming> Shown<J> {
             view: self.view,
             shard: self.shard,
             rows: Grouped::new(self.alloc, self.rows.column()),
-            cut: self.cut.again(self.alloc)?,
+            cut: self.cut.try_clone(self.alloc)?,
             asked: self.asked,
         })
     }
@@ -114,7 +114,7 @@ impl<J: Naming> Absorb<Delta<J>> for Shown<J> {
         if self.view != delta.view || self.shard != delta.shard || !delta.before.agrees(&self.cut) {
             return Err(AllocError);
         }
-        let after = delta.after.again(self.alloc)?;
+        let after = delta.after.try_clone(self.alloc)?;
         self.rows.apply(self.alloc, delta.changes.as_slice())?;
         self.cut = after;
         self.asked = delta.asked;

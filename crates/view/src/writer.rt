@@ -1,7 +1,7 @@
 //! The writer of a shown copy.
-ghost use Rattle.std.specs.Prelude.{◌≡◌, ◌<◌, ◌^◌, ◌++◌, ◌∷◌, [], drop as dropped, fold, length, IfOk, IfSome, Some, IfErr, OnOk, OnErr};
+ghost use Rattle.std.specs.Prelude.{◌≡◌, ◌<◌, ◌^◌, ◌++◌, ◌∷◌, [], fold, length, IfOk, IfSome, Some, IfErr, OnOk, OnErr};
 ghost use Rattle.plan.specs.Layouts.{view_at};
-ghost use Rattle.left_right.specs.Sides.{view as sight_of};
+ghost use Rattle.view.specs.Boards.{pending, pending_by, shown, shown_by, sight, sight_by};
 ghost use Rattle.view.specs.Sights.{IsChain};
 ghost use Rattle.view.specs.Snapshots.{Snapshot, IsLater, Starts, applied, zero_lengths};
 
@@ -52,13 +52,13 @@ pub fn open<J: Naming, R: Wait + Drop>(
     requires plan { plan.now ≡ J.plan }
     requires view { view < length plan.now.views }
     requires readers { (0 < readers) × (readers < 2 ^ 32) }
-    ensures of { IfOk result (λ w. (w.writer.desk.shown.value.view ≡ view) × (w.writer.desk.shown.value.shard ≡ shard)) }
-    ensures zeros { IfOk result (λ w. w.writer.desk.shown.value.cut.lengths ≡ zero_lengths J.plan) }
-    ensures asked { IfOk result (λ w. w.writer.desk.shown.value.asked ≡ 0) }
-    ensures pending { IfOk result (λ w. dropped w.writer.behind w.writer.log.items ≡ []) }
+    ensures of { IfOk result (λ w. ((shown w).view ≡ view) × ((shown w).shard ≡ shard)) }
+    ensures zeros { IfOk result (λ w. (shown w).cut.lengths ≡ zero_lengths J.plan) }
+    ensures asked { IfOk result (λ w. (shown w).asked ≡ 0) }
+    ensures pending { IfOk result (λ w. pending w ≡ []) }
 {
     let first = Shown::new(alloc, plan, view, shard, part)?;
-    let second = first.twin()?;
+    let second = first.empty_copy()?;
     let writer = Writer::new(alloc, first, second, readers)?;
     Ok(Board { writer, rt })
 }
@@ -66,7 +66,7 @@ pub fn open<J: Naming, R: Wait + Drop>(
 impl<J: Naming, R: Wait + Drop> ShownWriter<J, R> {
     /// The cut of what readers see.
     pub fn cut(&self) -> &Cut<J>
-        ensures { result.now ≡ self.now.writer.desk.shown.value.cut }
+        ensures { result.now ≡ (shown self.now).cut }
     {
         self.writer.published().cut()
     }
@@ -74,12 +74,12 @@ impl<J: Naming, R: Wait + Drop> ShownWriter<J, R> {
     /// A reader, which has looked once and sees no less than was published last. Refused with
     /// `NoMemory`, also where each place for a reader is in use.
     pub fn reader(&mut self) -> Result<ShownReader<J>, AllocError>
-        ensures view { IfOk result (λ r. r.view ≡ self.old.writer.desk.shown.value.view) }
-        ensures shard { IfOk result (λ r. r.shard ≡ self.old.writer.desk.shown.value.shard) }
-        ensures told { IfOk result (λ r. IfSome (sight_of self.old.writer.desk.place) (λ s. IsLater s r)) }
-        ensures sight { sight_of self.new.writer.desk.place ≡ sight_of self.old.writer.desk.place }
-        ensures shown { self.new.writer.desk.shown.value ≡ self.old.writer.desk.shown.value }
-        ensures pending { dropped self.new.writer.behind self.new.writer.log.items ≡ dropped self.old.writer.behind self.old.writer.log.items }
+        ensures view { IfOk result (λ r. r.view ≡ (shown self.old).view) }
+        ensures shard { IfOk result (λ r. r.shard ≡ (shown self.old).shard) }
+        ensures told { IfOk result (λ r. IfSome (sight self.old) (λ s. IsLater s r)) }
+        ensures sight { sight self.new ≡ sight self.old }
+        ensures shown { shown self.new ≡ shown self.old }
+        ensures pending { pending self.new ≡ pending self.old }
     {
         let shown = self.writer.published();
         let (view, shard) = (shown.view, shown.shard);
@@ -91,12 +91,13 @@ impl<J: Naming, R: Wait + Drop> ShownWriter<J, R> {
     /// Puts a delta behind those that are not published yet; it starts where they end. Errors:
     /// memory only; then nothing has changed. Readers see what they saw.
     pub fn append(&mut self, delta: Delta<J>) -> Result<(), AllocError>
-        requires chain { IsChain self.old.writer.desk.shown.value (dropped self.old.writer.behind self.old.writer.log.items) }
-        requires starts { Starts (fold applied self.old.writer.desk.shown.value (dropped self.old.writer.behind self.old.writer.log.items)) delta }
-        ensures shown { self.new.writer.desk ≡ self.old.writer.desk }
-        ensures pending { OnOk result (dropped self.new.writer.behind self.new.writer.log.items ≡ dropped self.old.writer.behind self.old.writer.log.items ++ delta ∷ []) }
-        ensures err { OnErr result (dropped self.new.writer.behind self.new.writer.log.items ≡ dropped self.old.writer.behind self.old.writer.log.items) }
-        ensures chain { IsChain self.new.writer.desk.shown.value (dropped self.new.writer.behind self.new.writer.log.items) }
+        requires chain { IsChain (shown self.old) (pending self.old) }
+        requires starts { Starts (fold applied (shown self.old) (pending self.old)) delta }
+        ensures sight { sight self.new ≡ sight self.old }
+        ensures shown { shown self.new ≡ shown self.old }
+        ensures pending { OnOk result (pending self.new ≡ pending self.old ++ delta ∷ []) }
+        ensures err { OnErr result (pending self.new ≡ pending self.old) }
+        ensures chain { IsChain (shown self.new) (pending self.new) }
     {
         delta.grows();
         match self.writer.append(delta) {
@@ -110,13 +111,13 @@ impl<J: Naming, R: Wait + Drop> ShownWriter<J, R> {
     /// deltas are still to be published. Cost: each record is applied to both copies, and a look at
     /// the place of each reader.
     pub fn publish(&mut self) -> Result<(), AllocError>
-        requires chain { IsChain self.old.writer.desk.shown.value (dropped self.old.writer.behind self.old.writer.log.items) }
-        ensures shown { OnOk result (self.new.writer.desk.shown.value ≡ fold applied self.old.writer.desk.shown.value (dropped self.old.writer.behind self.old.writer.log.items)) }
-        ensures done { OnOk result (dropped self.new.writer.behind self.new.writer.log.items ≡ []) }
-        ensures err { OnErr result ((self.new.writer.desk.shown.value ≡ self.old.writer.desk.shown.value) × (dropped self.new.writer.behind self.new.writer.log.items ≡ dropped self.old.writer.behind self.old.writer.log.items)) }
-        ensures later { IsLater self.old.writer.desk.shown.value self.new.writer.desk.shown.value }
-        ensures seen { OnOk result (sight_of self.new.writer.desk.place ≡ Some self.new.writer.desk.shown.value) }
-        ensures kept { OnErr result (sight_of self.new.writer.desk.place ≡ sight_of self.old.writer.desk.place) }
+        requires chain { IsChain (shown self.old) (pending self.old) }
+        ensures shown { OnOk result (shown self.new ≡ fold applied (shown self.old) (pending self.old)) }
+        ensures done { OnOk result (pending self.new ≡ []) }
+        ensures err { OnErr result ((shown self.new ≡ shown self.old) × (pending self.new ≡ pending self.old)) }
+        ensures later { IsLater (shown self.old) (shown self.new) }
+        ensures seen { OnOk result (sight self.new ≡ Some (shown self.new)) }
+        ensures kept { OnErr result (sight self.new ≡ sight self.old) }
     {
         replace_with(
             &mut self.writer,
@@ -133,13 +134,13 @@ fn publish_by<J: Naming, R: Wait>(
     Writer<Shown<J>, Delta<J>, Sight, Published>,
     Result<(), AllocError>,
 )
-    requires chain { IsChain writer.desk.shown.value (dropped writer.behind writer.log.items) }
-    ensures shown { OnOk result.1 (result.0.desk.shown.value ≡ fold applied writer.desk.shown.value (dropped writer.behind writer.log.items)) }
-    ensures done { OnOk result.1 (dropped result.0.behind result.0.log.items ≡ []) }
-    ensures err { OnErr result.1 ((result.0.desk.shown.value ≡ writer.desk.shown.value) × (dropped result.0.behind result.0.log.items ≡ dropped writer.behind writer.log.items)) }
-    ensures later { IsLater writer.desk.shown.value result.0.desk.shown.value }
-    ensures seen { OnOk result.1 (sight_of result.0.desk.place ≡ Some result.0.desk.shown.value) }
-    ensures kept { OnErr result.1 (sight_of result.0.desk.place ≡ sight_of writer.desk.place) }
+    requires chain { IsChain (shown_by writer) (pending_by writer) }
+    ensures shown { OnOk result.1 (shown_by result.0 ≡ fold applied (shown_by writer) (pending_by writer)) }
+    ensures done { OnOk result.1 (pending_by result.0 ≡ []) }
+    ensures err { OnErr result.1 ((shown_by result.0 ≡ shown_by writer) × (pending_by result.0 ≡ pending_by writer)) }
+    ensures later { IsLater (shown_by writer) (shown_by result.0) }
+    ensures seen { OnOk result.1 (sight_by result.0 ≡ Some (shown_by result.0)) }
+    ensures kept { OnErr result.1 (sight_by result.0 ≡ sight_by writer) }
 {
     writer.publish_as::<Looks, R>(rt)
 }

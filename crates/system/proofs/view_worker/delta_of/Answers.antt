@@ -25,7 +25,7 @@ new-requires g c =
     let is = c.advance.ensures.lengths ∙ (ap (λ (d : CutView). with_length d.lengths 0 0 c.to-2.result.now.len) same ∙ ap (λ (f : FrontView). with_length before.lengths 0 0 f.len) to2) in
     let bw = (let h = c.advance.ensures.seen in rw same at h) in
     let tw = (let h = c.advance.ensures.others in rw to2 at h) in
-    let w : IsWithin p before.seen before.lengths = rw (c.in_ok-before.ensures) c.is_within.ensures in
+    let w : IsWithin p before.seen before.lengths = rw (c.in_ok-before.ensures) c.lengths.ensures.within in
     let test : Record → _ = λ (r : Record). has_shard p.left.key p.stages 0 r.row in
     let kept = filter_same _ test _ (λ x b f' k'. search rules) _ _ c.retain.ensures.filtered ∙ ap (filter test) c.into_parts-to.ensures.changes in
     single_delta p c.requires.single before c.advance.new.self k c.retain.new.self.items w base reached c.into_parts-to.ensures.truth from is bw tw kept

@@ -1,54 +1,48 @@
-use Rattle.std.proofs.Common.{◌+◌, ap, sym, refl}
-use Rattle.model.proofs.Prefixes.{prefix_trans}
-use Rattle.book.proofs.Steps.{seen_more, told_yes, told_no}
-use Rattle.book.proofs.Sessions.{session_later, read_asked, read_told, answered, stolen}
+use Rattle.std.proofs.Common.{◌+◌, refl, subst, sym}
+use Rattle.row.specs.Cells.{datum_of}
+use Rattle.model.specs.Tables.{with_floor}
+use Rattle.book.specs.Sessions.{SessionView, IsRead, IsSession}
+use Rattle.book.proofs.Steps.{any_err}
+use Rattle.book.proofs.Sessions.{answered, read_asked, read_told, session_at, session_later, stolen_before}
 use Rattle.book.proofs.session.SessionWord.answer.Goals as goal
-
-pub try_add-found-requires-clause-ask : goal.try_add-found-requires-clause-ask
-try_add-found-requires-clause-ask g c =
-    let x = session_later g.J.Naming.plan g.J.Naming.sessions c.self.inside.seen.log c.learn.new.seen.log _ _ _ c.self.invariant.2 c.learn.ensures.grown in
-    let q = c.requires in
-    let at = sym c.self.view_is in
-    let is = sym c.cut.view_is in
-    read_asked g.J.Naming.plan g.J.Naming.sessions c.learn.new.seen.log c.cut.inside.seen.log _ _ _ c.args.view c.args.shard _ _ _ _ (ap (λ b. b + c.self.inside.number) c.bases.ensures.bases) q.shard x c.learn.ensures.others q.view q.within c.cut.invariant.2 (rw (at, is) at q.floor) (rw is at q.rows)
 
 pub invariant_of-self : goal.invariant_of-self
 invariant_of-self g c =
+    let l = c.learn.ensures in
+    (l.book, l.of, session_later g.J.Naming.plan g.J.Naming.sessions c.self.inside.seen.log c.learn.new.seen.log _ _ _ c.self.invariant.2 l.grown)
+
+pub add-requires-clause-ask : goal.add-requires-clause-ask
+add-requires-clause-ask g c =
     let p = g.J.Naming.plan in
     let n = g.J.Naming.sessions in
     let x = session_later p n c.self.inside.seen.log c.learn.new.seen.log _ _ _ c.self.invariant.2 c.learn.ensures.grown in
-    let t = c.try_add-found.ensures in
     let q = c.requires in
-    let told = told_yes _ _ _ _ _ _ _ _ c.learn.new.seen.log c.try_add-found.new.seen.log t.told refl refl c.if-found-answered.true in (
-      t.book,
-      t.told.of,
-      rw c.set.ensures (read_told p n c.learn.new.seen.log c.try_add-found.new.seen.log c.self.inside.number c.self.inside.answered c.self.inside.floors c.args.view c.args.shard _ _ _ _ (ap (λ b. b + c.self.inside.number) c.bases.ensures.bases) q.shard x q.view q.within told),
-    )
+    let at = sym c.self.view_is in
+    let is = sym c.cut.view_is in
+    read_asked p n c.learn.new.seen.log c.cut.inside.seen.log _ _ _ c.args.view c.args.shard _ _ _ q.shard x c.learn.ensures.others q.view q.within c.cut.invariant.2 (rw (at, is) at q.floor) (rw is at q.rows)
 
-pub invariant_of-self-else-found-answered : goal.invariant_of-self-else-found-answered
-invariant_of-self-else-found-answered g c =
-    let t = c.try_add-found.ensures in
-    (t.book, t.told.of, session_later _ _ c.self.inside.seen.log c.try_add-found.new.seen.log _ _ _ c.self.invariant.2 (prefix_trans _ c.learn.new.seen.log _ c.learn.ensures.grown t.grown))
+pub returns-in_err-add-clause-stolen : goal.returns-in_err-add-clause-stolen
+returns-in_err-add-clause-stolen g c = any_err c.from_residual.result (rw (← c.self.view_is) (stolen_before g.J.Naming.plan c.self.inside.seen.log c.learn.new.seen.log _ _ _ c.add.new.self c.learn.ensures.grown c.in_err-add.ensures.stolen))
 
-pub returns-then-found-answered-clause-told : goal.returns-then-found-answered-clause-told
-returns-then-found-answered-clause-told g c =
+pub invariant_of-self-2 : goal.invariant_of-self-2
+invariant_of-self-2 g c =
     let p = g.J.Naming.plan in
     let n = g.J.Naming.sessions in
-    let t = c.try_add-found.ensures in
-    let told = told_yes _ _ _ _ _ _ _ _ c.learn.new.seen.log c.try_add-found.new.seen.log t.told refl refl c.if-found-answered.true in
-    rw (c.set.ensures, ← c.self.view_is, ← c.cut.view_is) (answered p n c.self.inside.seen.log c.learn.new.seen.log c.try_add-found.new.seen.log c.self.inside.number c.self.inside.answered _ c.self.inside.floors _ _ (ap (λ b. b + c.self.inside.number) c.bases.ensures.bases) c.self.invariant.2 c.learn.ensures.grown told)
+    let x = session_later p n c.self.inside.seen.log c.learn.new.seen.log _ _ _ c.self.invariant.2 c.learn.ensures.grown in
+    let q = c.requires in
+    let i = c.self-2.invariant in
+    let stays = rw (sym c.self-2.view_is) at c.add.ensures.stays in
+    let done = rw (sym c.self-2.view_is) at c.in_ok-add.ensures.done in
+    let read = read_told p n c.learn.new.seen.log c.self-2.inside.seen.log _ _ _ c.args.view c.args.shard _ _ c.cut.inside.lengths q.shard x q.view q.within (done _ refl) in
+    (i.0, i.1, rw c.set.ensures (subst (λ (y : SessionView). IsSession p n (record y { answered = y.answered + 1; floors = with_floor y.floors c.args.view c.args.shard c.cut.inside.lengths })) (sym stays) read))
 
-pub returns-else-found-answered-clause-told : goal.returns-else-found-answered-clause-told
-returns-else-found-answered-clause-told g c =
+pub returns-clause-answered : goal.returns-clause-answered
+returns-clause-answered g c =
     let p = g.J.Naming.plan in
     let n = g.J.Naming.sessions in
-    let t = c.try_add-found.ensures in
-    let pre = prefix_trans _ c.learn.new.seen.log _ c.learn.ensures.grown t.grown in
-    let found = told_no _ _ _ _ _ _ _ _ c.learn.new.seen.log c.try_add-found.new.seen.log t.told (ap (λ b. b + c.self.inside.number) c.bases.ensures.bases) refl c.if-found-answered.false in
-    rw (← c.self.view_is) (stolen p n c.self.inside.seen.log c.try_add-found.new.seen.log c.self.inside.number c.self.inside.answered c.try_add-found.result c.self.inside.floors pre (session_later p n c.self.inside.seen.log c.try_add-found.new.seen.log _ _ _ c.self.invariant.2 pre) c.if-found-answered.false found)
-
-pub returns-then-found-answered-clause-others : goal.returns-then-found-answered-clause-others
-returns-then-found-answered-clause-others g c = rw (← c.cut.view_is) (seen_more c.cut.inside.seen.log c.try_add-found.new.seen.log (prefix_trans _ c.learn.new.seen.log _ c.learn.ensures.others c.try_add-found.ensures.grown))
-
-pub returns-else-found-answered-clause-others : goal.returns-else-found-answered-clause-others
-returns-else-found-answered-clause-others g c = rw (← c.cut.view_is) (seen_more c.cut.inside.seen.log c.try_add-found.new.seen.log (prefix_trans _ c.learn.new.seen.log _ c.learn.ensures.others c.try_add-found.ensures.grown))
+    let me = c.self.inside in
+    let stays = rw (sym c.self-2.view_is) at c.add.ensures.stays in
+    let done = rw (sym c.self-2.view_is) at c.in_ok-add.ensures.done in
+    let after = with_floor me.floors c.args.view c.args.shard c.cut.inside.lengths in
+    let all = answered p n me.seen.log c.learn.new.seen.log c.self-2.inside.seen.log me.number me.answered me.floors after _ c.self.invariant.2 c.learn.ensures.grown (done _ refl) in
+    rw (c.set.ensures, ← c.self.view_is, ← c.cut.view_is) (subst (λ (y : SessionView). IsRead p (session_at me.number me.answered me.floors me.seen.log) c.args.view c.args.shard (datum_of c.args.key.now) c.args.rows.now.items c.cut.inside.lengths (record y { answered = y.answered + 1; floors = with_floor y.floors c.args.view c.args.shard c.cut.inside.lengths })) (sym stays) all)

@@ -1,53 +1,52 @@
-use Rattle.std.proofs.Common.{◌+◌, ap, sym, refl}
+use Rattle.std.proofs.Common.{◌+◌, refl, subst, sym}
+use Rattle.model.specs.Tables.{places_of}
 use Rattle.model.proofs.Prefixes.{prefix_trans}
-use Rattle.book.proofs.Steps.{seen_more, told_yes, told_no}
-use Rattle.book.proofs.Sessions.{session_later, fence_asked, fence_told, answered, stolen}
+use Rattle.book.specs.Pages.{history_of}
+use Rattle.book.specs.Sessions.{SessionView, IsEnded, IsSession}
+use Rattle.book.proofs.Steps.{seen_more}
+use Rattle.book.proofs.Sessions.{answered, fence_asked, fence_told, session_at, session_later}
 use Rattle.book.proofs.session.SessionWord.fence.Goals as goal
-
-pub try_add-found-requires-clause-ask : goal.try_add-found-requires-clause-ask
-try_add-found-requires-clause-ask g c =
-    let x = session_later g.J.Naming.plan g.J.Naming.sessions c.self.inside.seen.log c.learn.new.seen.log _ _ _ c.self.invariant.2 c.learn.ensures.grown in
-    let q = c.requires in
-    let at = sym c.self.view_is in
-    let is = sym c.cuts.view_is in
-    fence_asked g.J.Naming.plan g.J.Naming.sessions c.self.inside.seen.log c.learn.new.seen.log c.cuts.inside.seen.log _ _ _ _ _ _ (ap (λ b. b + c.self.inside.number) c.bases.ensures.bases) x c.learn.ensures.grown c.learn.ensures.others c.cuts.invariant.2 (rw (at, is) at q.floors) (rw is at q.past) (rw at at q.own)
 
 pub invariant_of-self : goal.invariant_of-self
 invariant_of-self g c =
+    let l = c.learn.ensures in
+    (l.book, l.of, session_later g.J.Naming.plan g.J.Naming.sessions c.self.inside.seen.log c.learn.new.seen.log _ _ _ c.self.invariant.2 l.grown)
+
+pub add-requires-clause-ask : goal.add-requires-clause-ask
+add-requires-clause-ask g c =
     let p = g.J.Naming.plan in
     let n = g.J.Naming.sessions in
     let x = session_later p n c.self.inside.seen.log c.learn.new.seen.log _ _ _ c.self.invariant.2 c.learn.ensures.grown in
-    let t = c.try_add-found.ensures in
-    let told = told_yes _ _ _ _ _ _ _ _ c.learn.new.seen.log c.try_add-found.new.seen.log t.told refl refl c.if-found-answered.true in (
-      t.book,
-      t.told.of,
-      fence_told p n c.learn.new.seen.log c.try_add-found.new.seen.log c.self.inside.number c.self.inside.answered c.self.inside.floors _ _ _ (ap (λ b. b + c.self.inside.number) c.bases.ensures.bases) x c.cuts.invariant.2.table told,
-    )
+    let q = c.requires in
+    let at = sym c.self.view_is in
+    let is = sym c.cuts.view_is in
+    fence_asked p n c.self.inside.seen.log c.learn.new.seen.log c.cuts.inside.seen.log _ _ _ _ _ x c.learn.ensures.grown c.learn.ensures.others c.cuts.invariant.2 (rw (at, is) at q.floors) (rw is at q.past) (rw at at q.own)
 
-pub invariant_of-self-else-found-answered : goal.invariant_of-self-else-found-answered
-invariant_of-self-else-found-answered g c =
-    let t = c.try_add-found.ensures in
-    (t.book, t.told.of, session_later _ _ c.self.inside.seen.log c.try_add-found.new.seen.log _ _ _ c.self.invariant.2 (prefix_trans _ c.learn.new.seen.log _ c.learn.ensures.grown t.grown))
+pub returns-in_err-add-clause-others : goal.returns-in_err-add-clause-others
+returns-in_err-add-clause-others g c = rw (← c.cuts.view_is) (prefix_trans _ (history_of c.learn.new.seen.log) _ (seen_more c.cuts.inside.seen.log c.learn.new.seen.log c.learn.ensures.others) c.add.ensures.grown)
 
-pub returns-then-found-answered-clause-told : goal.returns-then-found-answered-clause-told
-returns-then-found-answered-clause-told g c =
+pub returns-clause-others : goal.returns-clause-others
+returns-clause-others g c =
+    let grown = rw (sym c.self-2.view_is) at c.add.ensures.grown in
+    rw (← c.cuts.view_is) (prefix_trans _ (history_of c.learn.new.seen.log) _ (seen_more c.cuts.inside.seen.log c.learn.new.seen.log c.learn.ensures.others) grown)
+
+pub invariant_of-self-2 : goal.invariant_of-self-2
+invariant_of-self-2 g c =
     let p = g.J.Naming.plan in
     let n = g.J.Naming.sessions in
-    let t = c.try_add-found.ensures in
-    let told = told_yes _ _ _ _ _ _ _ _ c.learn.new.seen.log c.try_add-found.new.seen.log t.told refl refl c.if-found-answered.true in
-    rw (← c.self.view_is, ← c.cuts.view_is) (answered p n c.self.inside.seen.log c.learn.new.seen.log c.try_add-found.new.seen.log c.self.inside.number c.self.inside.answered _ c.self.inside.floors _ _ (ap (λ b. b + c.self.inside.number) c.bases.ensures.bases) c.self.invariant.2 c.learn.ensures.grown told)
+    let x = session_later p n c.self.inside.seen.log c.learn.new.seen.log _ _ _ c.self.invariant.2 c.learn.ensures.grown in
+    let i = c.self-2.invariant in
+    let stays = rw (sym c.self-2.view_is) at c.add.ensures.stays in
+    let done = rw (sym c.self-2.view_is) at c.in_ok-add.ensures.done in
+    let ended = fence_told p n c.learn.new.seen.log c.self-2.inside.seen.log _ _ _ c.cuts.inside.floors _ x c.cuts.invariant.2.table (done _ refl) in
+    (i.0, i.1, subst (λ (y : SessionView). IsSession p n (record y { answered = y.answered + 1; floors = c.cuts.inside.floors })) (sym stays) ended)
 
-pub returns-else-found-answered-clause-told : goal.returns-else-found-answered-clause-told
-returns-else-found-answered-clause-told g c =
+pub returns-clause-fenced : goal.returns-clause-fenced
+returns-clause-fenced g c =
     let p = g.J.Naming.plan in
     let n = g.J.Naming.sessions in
-    let t = c.try_add-found.ensures in
-    let pre = prefix_trans _ c.learn.new.seen.log _ c.learn.ensures.grown t.grown in
-    let found = told_no _ _ _ _ _ _ _ _ c.learn.new.seen.log c.try_add-found.new.seen.log t.told (ap (λ b. b + c.self.inside.number) c.bases.ensures.bases) refl c.if-found-answered.false in
-    rw (← c.self.view_is) (stolen p n c.self.inside.seen.log c.try_add-found.new.seen.log c.self.inside.number c.self.inside.answered c.try_add-found.result c.self.inside.floors pre (session_later p n c.self.inside.seen.log c.try_add-found.new.seen.log _ _ _ c.self.invariant.2 pre) c.if-found-answered.false found)
-
-pub returns-then-found-answered-clause-others : goal.returns-then-found-answered-clause-others
-returns-then-found-answered-clause-others g c = rw (← c.cuts.view_is) (seen_more c.cuts.inside.seen.log c.try_add-found.new.seen.log (prefix_trans _ c.learn.new.seen.log _ c.learn.ensures.others c.try_add-found.ensures.grown))
-
-pub returns-else-found-answered-clause-others : goal.returns-else-found-answered-clause-others
-returns-else-found-answered-clause-others g c = rw (← c.cuts.view_is) (seen_more c.cuts.inside.seen.log c.try_add-found.new.seen.log (prefix_trans _ c.learn.new.seen.log _ c.learn.ensures.others c.try_add-found.ensures.grown))
+    let me = c.self.inside in
+    let stays = rw (sym c.self-2.view_is) at c.add.ensures.stays in
+    let done = rw (sym c.self-2.view_is) at c.in_ok-add.ensures.done in
+    let all = answered p n me.seen.log c.learn.new.seen.log c.self-2.inside.seen.log me.number me.answered me.floors c.cuts.inside.floors _ c.self.invariant.2 c.learn.ensures.grown (done _ refl) in
+    rw (← c.self.view_is, ← c.cuts.view_is) (subst (λ (y : SessionView). IsEnded p (session_at me.number me.answered me.floors me.seen.log) (places_of c.args.own.now.items) c.cuts.inside.floors (record y { answered = y.answered + 1; floors = c.cuts.inside.floors })) (sym stays) all)

@@ -1,18 +1,28 @@
-use Rattle.std.proofs.Common.{◌≡◌, ◌<◌, ◌++◌, ◌∷◌, [], ap, sym, ◌∙◌, subst}
+use Rattle.std.proofs.Common.{◌≡◌, ◌<◌, ◌++◌, ◌∷◌, [], true, rules, ap, sym, ◌∙◌, subst}
 use Rattle.row.specs.Bags.{Each}
 use Rattle.model.specs.Entries.{change_of}
 use Rattle.model.specs.Histories.{Author}
-use Rattle.model.specs.Logs.{Change}
+use Rattle.model.specs.Legal.{limit}
+use Rattle.model.specs.Logs.{Change, lawful}
+use Rattle.model.specs.Places.{layout_of}
+use Rattle.model.proofs.LegalSamples.{allowed}
 use Rattle.book.specs.Fronts.{FrontView, entries, authors}
 use Rattle.base.specs.Shards.{Shard, IsAt}
 use Rattle.domain.proofs.Calls.{absent, rows_refusal, same_refusal, domain_next}
 use Rattle.domain.proofs.Packets.{packet_true, sends}
 use Rattle.domain.proofs.base_domain.BaseDomain.accept.Goals as goal
 
-pub write-requires-clause-number : goal.write-requires-clause-number
-write-requires-clause-number g c =
+pub write-requires : goal.write-requires
+write-requires g c =
     let rises = rw (← c.self.view_is, ← c.write.view_is) at c.requires.rises in
-    subst (λ (f : FrontView). Each (λ (a : Author). a.session ≡ c.write.inside.session → a.number < c.write.inside.number) (authors f)) (sym c.again-front.ensures) (absent c.self.inside.next.items c.write.inside.session c.write.inside.number (authors c.self.inside.front) c.self.invariant.numbers rises)
+    let free = rw (← c.self.view_is, ← c.write.view_is) at c.requires.free in
+    record {
+      fits = search rules;
+      shard = search rules;
+      lawful = subst (λ (f : FrontView). lawful (layout_of g.J.Naming.plan f.base).key (entries f) (change_of c.write.inside.entry) ≡ true) (sym c.again-front.ensures) (allowed _ limit (entries c.self.inside.front) (change_of c.write.inside.entry) free).0;
+      room = search rules;
+      number = subst (λ (f : FrontView). Each (λ (a : Author). a.session ≡ c.write.inside.session → a.number < c.write.inside.number) (authors f)) (sym c.again-front.ensures) (absent c.self.inside.next.items c.write.inside.session c.write.inside.number (authors c.self.inside.front) c.self.invariant.numbers rises);
+    }
 
 pub ready_for-requires-clause-lawful : goal.ready_for-requires-clause-lawful
 ready_for-requires-clause-lawful g c =
@@ -22,7 +32,7 @@ ready_for-requires-clause-lawful g c =
 pub new-packet-requires : goal.new-packet-requires
 new-packet-requires g c =
     let f = c.self.inside.front in
-    let appended = rw c.again-front.ensures at c.in-Ok-write.ensures.accepted.0 in
+    let appended = rw c.again-front.ensures at c.in-Ok-write.ensures.accepted.appended in
     packet_true g.J.Naming.plan f c.write-2.new.self c.again.result c.write.inside.session c.write.inside.number (change_of c.write.inside.entry) c.len-from.result c.self.inside.shard.key c.in-Ok.ready.changes.items c.len-from.ensures.len c.again.ensures c.self.invariant.key c.self.invariant.len appended
     (c.in-Ok.ensures.turns (entries f) c.self.invariant.at)
 
@@ -39,13 +49,13 @@ invariant_of-self-in-Ok-write g c =
     let rises = rw (← c.self.view_is, ← c.write.view_is) at c.requires.rises in
     let place = rw (← c.self.view_is, ← c.write.view_is) at c.requires.place in
     let f = c.self.inside.front in
-    let appended = rw c.again-front.ensures at c.in-Ok-write.ensures.accepted.0 in
+    let appended = rw c.again-front.ensures at c.in-Ok-write.ensures.accepted.appended in
     let at : IsAt c.commit.new.self (entries f ++ change_of c.write.inside.entry ∷ []) = subst (λ (x : Change). IsAt c.commit.new.self (entries f ++ x ∷ [])) e.kept (c.commit.ensures.front (entries f) (e.front (entries f) c.self.invariant.at)) in
     domain_next g.J.Naming.plan c.self.inside.shard c.commit.new.self f c.write-2.new.self c.self.inside.next.items c.write.inside.session c.write.inside.number (change_of c.write.inside.entry) c.self.invariant appended at (ap (λ (s : Shard). s.key) c.commit.ensures.rest ∙ ap (λ (s : Shard). s.key) e.rest) (ap (λ (s : Shard). s.limit) c.commit.ensures.rest ∙ ap (λ (s : Shard). s.limit) e.rest) place rises
 
 pub returns-in-Ok-write-clause-sent : goal.returns-in-Ok-write-clause-sent
 returns-in-Ok-write-clause-sent g c =
     let f = c.self.inside.front in
-    let appended = rw c.again-front.ensures at c.in-Ok-write.ensures.accepted.0 in
+    let appended = rw c.again-front.ensures at c.in-Ok-write.ensures.accepted.appended in
     rw (← c.self.view_is, ← c.write.view_is) (sends g.J.Naming.plan f c.write-2.new.self c.again.result c.write.inside.session c.write.inside.number (change_of c.write.inside.entry) c.len-from.result c.self.inside.shard.key c.in-Ok.ready.changes.items
     c.new-packet.result c.new-packet.ensures c.len-from.ensures.len c.again.ensures c.self.invariant.key appended (c.in-Ok.ensures.records (entries f) c.self.invariant.at) (c.in-Ok.ensures.turns (entries f) c.self.invariant.at))

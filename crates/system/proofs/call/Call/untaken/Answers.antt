@@ -8,9 +8,9 @@ returns-clause-untaken g c =
     let own = c.if-not-is_of.ensures.same refl in
     let told = c.in_ok-seen.ensures.told in
     let refused = c.refused-refused.ensures in
-    let log = rw c.into_front.ensures.front at told.2 in
-    let by = rw c.into_front.ensures.front at told.3 in
-    let grown = rw c.again-2.ensures at told.0 in
+    let log = rw c.into_front.ensures.front at told.log in
+    let by = rw c.into_front.ensures.front at told.authors in
+    let grown = rw c.again-2.ensures at c.in_ok-seen.ensures.seen.0 in
     rw refused (inr (adopted_decides g.J.Naming.plan c.args.seen.now c.args.front.now.seen c.in_ok-seen.seen c.args.declined c.args.self.session c.args.self.number c.args.self.base (change_of c.args.entry.now) own.0 own.1 own.2 own.3 c.into_front.ensures.answered
     (λ e. (let is = refused ∙ e in let false_is = rw is at c.if-eq.ensures in absurd (cc false_is)))
     (λ e. (let is = refused ∙ e in let false_is = rw is at c.if-eq-2.ensures in absurd (cc false_is)))
