@@ -30,7 +30,7 @@ Each-filtered p (r ∷ rows) = step (p r) refl (Each-filtered p rows)
     step true e k = (e, k)
     step false e k = k
 
-Each-filter : (P : Cells → Type 0) (p : Cells → Bool) (rows : List Cells) → Each P rows → Each P (filter p rows)
+pub Each-filter : (P : Cells → Type 0) (p : Cells → Bool) (rows : List Cells) → Each P rows → Each P (filter p rows)
 Each-filter P p [] h = tt
 Each-filter P p (r ∷ rows) h = step (p r) (Each-filter P p rows h.1)
   where
