@@ -2,8 +2,8 @@
 use crate::plans::{CLICKS, side};
 use crate::words::{records, row, rows, value, written, written_records};
 use ops::filter;
-use ops::shape::{Shape, remade, remade_of_key};
-use ops::total::can_tell_all;
+use ops::shape::{Shape, delta_of, delta_of_key};
+use ops::total::all_fit_64_bits;
 use plan::kinds::Aggregate;
 use std::alloc::{AllocError, Global};
 use std::test::Fail;
@@ -49,11 +49,11 @@ const REMADE: [(Shape, &str, &str, &str); 8] = [
 
 fn made_anew(alloc: Global, shape: Shape, before: &str, after: &str) -> Result<String, AllocError> {
     let (before, after) = (rows(alloc, before)?, rows(alloc, after)?);
-    let told = shape.told_of_partners();
-    if !can_tell_all(told, &before) || !can_tell_all(told, &after) {
+    let aggregate = shape.aggregate_of_partners();
+    if !all_fit_64_bits(aggregate, &before) || !all_fit_64_bits(aggregate, &after) {
         return String::from_str(alloc, "not told");
     }
-    let changes = remade(alloc, shape, &row(alloc, "1 7")?, &before, &after)?;
+    let changes = delta_of(alloc, shape, &row(alloc, "1 7")?, &before, &after)?;
     written_records(alloc, &changes)
 }
 
@@ -69,10 +69,10 @@ fn a_left_row_gives_anew_what_changed(rt: HostRuntime) -> Result<(), Fail> {
 fn group_made_anew(alloc: Global, before: &str, after: &str) -> Result<String, AllocError> {
     let sum = Aggregate::Sum(2);
     let (before, after) = (rows(alloc, before)?, rows(alloc, after)?);
-    if !can_tell_all(Some(sum), &before) || !can_tell_all(Some(sum), &after) {
+    if !all_fit_64_bits(Some(sum), &before) || !all_fit_64_bits(Some(sum), &after) {
         return String::from_str(alloc, "not told");
     }
-    let changes = remade_of_key(alloc, sum, &value(alloc, "home")?, &before, &after)?;
+    let changes = delta_of_key(alloc, sum, &value(alloc, "home")?, &before, &after)?;
     written_records(alloc, &changes)
 }
 

@@ -2,10 +2,10 @@
 ghost use Rattle.std.specs.Prelude.{◌≢◌};
 
 use crate::words::{records, written_records};
-use ops::index::have_column;
 use ops::shape::Shape;
+use ops::side::{Side, have_column};
 use ops::stage::{Stage, full};
-use ops::total::can_tell_all;
+use ops::total::all_fit_64_bits;
 use plan::kinds::Aggregate;
 use row::bag::Bag;
 use row::record::{Record, Sign};
@@ -39,28 +39,26 @@ fn turn(alloc: Global, bag: &mut Bag, records: &[Record]) -> Result<bool, AllocE
     Ok(all)
 }
 
-fn step_left(alloc: Global, stage: &mut Stage, records: &[Record]) -> Result<Vec<Record>, Fail> {
-    if !stage.takes_left(records) {
+fn take_step(
+    alloc: Global,
+    stage: &mut Stage,
+    side: Side,
+    records: &[Record],
+) -> Result<Vec<Record>, Fail> {
+    if !stage.takes(side, records) {
         return Err(Fail::from("not taken"));
     }
-    Ok(stage.step_left(alloc, records)?)
-}
-
-fn step_right(alloc: Global, stage: &mut Stage, records: &[Record]) -> Result<Vec<Record>, Fail> {
-    if !stage.takes_right(records) {
-        return Err(Fail::from("not taken"));
-    }
-    Ok(stage.step_right(alloc, records)?)
+    Ok(stage.step(alloc, side, records)?)
 }
 
 /// The shape of a stage, and the column of the stage key on each side.
 type Keyed = (Shape, usize, usize);
 
-/// The whole output over the rows of both sides, which have the columns and can be told of.
+/// The whole output over the rows of both sides, which have the columns and fit 64 bits.
 fn whole(alloc: Global, of: Keyed, lefts: &[Row], rights: &[Row]) -> Result<Bag, Fail> {
     let (shape, left, right) = of;
-    let lefts_fit = have_column(left, lefts) && can_tell_all(shape.told_of_left(), lefts);
-    let rights_fit = have_column(right, rights) && can_tell_all(shape.told_of_right(), rights);
+    let lefts_fit = have_column(left, lefts) && all_fit_64_bits(shape.aggregate_of_left(), lefts);
+    let rights_fit = have_column(right, rights) && all_fit_64_bits(shape.aggregate_of_right(), rights);
     if !lefts_fit || !rights_fit {
         return Err(Fail::from("no such output"));
     }
@@ -103,11 +101,8 @@ fn step(
     is_left: bool,
     records: &[Record],
 ) -> Result<Vec<Record>, Fail> {
-    let changes = if is_left {
-        step_left(alloc, stage, records)?
-    } else {
-        step_right(alloc, stage, records)?
-    };
+    let side = if is_left { Side::Left } else { Side::Right };
+    let changes = take_step(alloc, stage, side, records)?;
     if !turn(alloc, beside.side(is_left), records)? || !turn(alloc, &mut beside.shown, &changes)? {
         return Err(Fail::from("not there"));
     }
@@ -348,7 +343,7 @@ fn change(
     Ok(())
 }
 
-/// The six stages, each with the third column as what is summed.
+/// The six stages, each with the third column as what is fits_64_bits.
 const STAGES: [Keyed; 6] = [
     (Shape::Rows, 0, 1),
     (Shape::Join, 0, 1),

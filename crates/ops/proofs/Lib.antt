@@ -1,10 +1,8 @@
 pub mod Counts
 pub mod Differences
 pub mod Loops
-pub mod Keys
-pub mod Groups
-pub mod IndexSteps
 pub mod Sums
 pub mod StageLaws
 pub mod StageSteps
 pub mod Takes
+pub mod Fits

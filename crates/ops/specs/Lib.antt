@@ -1,4 +1,5 @@
 pub mod Changes
-pub mod Indexes
+pub mod SideRows
 pub mod Stages
+pub mod Walks
 pub mod Steps

@@ -4,7 +4,7 @@
 
 pub mod difference;
 pub mod filter;
-pub mod index;
 pub mod shape;
+pub mod side;
 pub mod stage;
 pub mod total;
