@@ -188,7 +188,7 @@ impl BaseShard {
     {
         let row = self.rows.get(key).unwrap();
         Ok(Record {
-            row: row.copied(alloc)?,
+            row: row.try_clone(alloc)?,
             sign: Sign::Minus,
         })
     }
@@ -218,7 +218,7 @@ impl BaseShard {
         ensures ok { OnOk result (self.new ≡ record self.old { room = Some (datum_of key.now) }) }
         ensures err { OnErr result (self.new ≡ self.old) }
     {
-        let key = key.copied(alloc).map_err(|_| Refused::NoMemory)?;
+        let key = key.try_clone(alloc).map_err(|_| Refused::NoMemory)?;
         self.rows.reserve(1).map_err(|_| Refused::NoMemory)?;
         self.ready = Some(key);
         Ok(())
@@ -300,7 +300,7 @@ fn plus(alloc: Global, row: &Row) -> Result<Record, AllocError>
     ensures { IfOk result (λ r. r ≡ plus_of row.now) }
 {
     Ok(Record {
-        row: row.copied(alloc)?,
+        row: row.try_clone(alloc)?,
         sign: Sign::Plus,
     })
 }

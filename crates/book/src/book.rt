@@ -45,9 +45,15 @@ impl Model for Opened {
 
     ghost Value = { OpenedView };
 
-    ghost view = { λ o. record { book = o.seen.book; plan = plan_on o.seen.log; sessions = o.sessions } };
+    ghost view = { λ o. record {
+      book = o.seen.book;
+      plan = plan_on o.seen.log;
+      sessions = o.sessions;
+    } };
 
-    ghost invariant = { λ o. (map padded_value o.words.items ≡ words_of o.seen.book (o.bases + o.sessions)) × (o.bases ≡ base_count (plan_on o.seen.log)) × (o.bases + o.sessions < 100) × (o.seen.log ≡ opens (plan_on o.seen.log) o.sessions ∷ []) };
+    ghost invariant = { λ o. (map padded_value o.words.items
+        ≡ words_of o.seen.book (o.bases + o.sessions)) × (o.bases ≡ base_count (plan_on o.seen.log))
+        × (o.bases + o.sessions < 100) × (o.seen.log ≡ opens (plan_on o.seen.log) o.sessions ∷ []) };
 }
 
 /// The words that all threads share: one for each base shard, then one for each session. Each has
@@ -70,7 +76,9 @@ impl<J: Naming> Model for Book<J> {
 
     ghost view = { λ b. b.bases + b.sessions };
 
-    ghost invariant = { λ b. (map padded_value b.words.items ≡ words_of J.book (b.bases + b.sessions)) × (b.bases ≡ base_count J.plan) × (b.bases + b.sessions < 100) × (b.sessions ≡ J.sessions) };
+    ghost invariant = { λ b. (map padded_value b.words.items
+        ≡ words_of J.book (b.bases + b.sessions)) × (b.bases ≡ base_count J.plan)
+        × (b.bases + b.sessions < 100) × (b.sessions ≡ J.sessions) };
 }
 
 impl Opened {

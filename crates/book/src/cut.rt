@@ -41,7 +41,8 @@ impl<J: Naming> Model for Cut<J> {
 
     ghost view = { λ c. record { lengths = c.lengths; seen = history_of c.seen.log } };
 
-    ghost invariant = { λ c. (c.seen.book ≡ J.book) × IsLogOf J.plan J.sessions c.seen.log × IsWithin J.plan (history_of c.seen.log) c.lengths };
+    ghost invariant = { λ c. (c.seen.book ≡ J.book) × IsLogOf J.plan J.sessions c.seen.log
+        × IsWithin J.plan (history_of c.seen.log) c.lengths };
 }
 
 /// A cut for each shard of each view.
@@ -61,7 +62,8 @@ impl<J: Naming> Model for Cuts<J> {
 
     ghost view = { λ c. record { floors = c.floors; seen = history_of c.seen.log } };
 
-    ghost invariant = { λ c. (c.seen.book ≡ J.book) × IsLogOf J.plan J.sessions c.seen.log × AreWithin J.plan (record { floors = c.floors; seen = history_of c.seen.log }) };
+    ghost invariant = { λ c. (c.seen.book ≡ J.book) × IsLogOf J.plan J.sessions c.seen.log
+        × AreWithin J.plan (record { floors = c.floors; seen = history_of c.seen.log }) };
 }
 
 impl<J: Naming> Cuts<J> {
@@ -75,7 +77,8 @@ impl<J: Naming> Cuts<J> {
     ) -> Result<Cuts<J>, AllocError>
         requires plan { plan.now ≡ J.plan }
         requires sources { map (λ (f : FrontView). f.base) fronts.now ≡ sources_of J.plan }
-        ensures floors { IfOk result (λ c. c.floors ≡ even_floors J.plan (map (λ (f : FrontView). f.len) fronts.now)) }
+        ensures floors { IfOk result (λ c. c.floors
+            ≡ even_floors J.plan (map (λ (f : FrontView). f.len) fronts.now)) }
         ensures seen { IfOk result (λ c. IsPrefix part.now c.seen) }
         ensures fronts { IfOk result (λ c. Each (IsReached c.seen) fronts.now) }
     {
@@ -120,7 +123,8 @@ impl<J: Naming> Cut<J> {
     ) -> Result<Cut<J>, AllocError>
         requires plan { plan.now ≡ J.plan }
         requires sources { map (λ (f : FrontView). f.base) fronts.now ≡ sources_of J.plan }
-        ensures lengths { IfOk result (λ c. c.lengths ≡ replicate J.plan.stages (map (λ (f : FrontView). f.len) fronts.now)) }
+        ensures lengths { IfOk result (λ c. c.lengths
+            ≡ replicate J.plan.stages (map (λ (f : FrontView). f.len) fronts.now)) }
         ensures seen { IfOk result (λ c. IsPrefix part.now c.seen) }
         ensures fronts { IfOk result (λ c. Each (IsReached c.seen) fronts.now) }
     {
@@ -146,7 +150,7 @@ impl<J: Naming> Cut<J> {
         ensures { IfOk result (λ c. c ≡ self.now) }
     {
         Ok(Cut {
-            lengths: self.lengths.again(alloc)?,
+            lengths: self.lengths.try_clone(alloc)?,
             seen: self.seen.again(),
             of: PhantomData,
         })
@@ -166,7 +170,8 @@ impl<J: Naming> Cut<J> {
     /// The cut at which each stage shard has the empty front of each source. Errors: memory only.
     pub fn zeros(alloc: Global, plan: &Plan, part: &Part<J>) -> Result<Cut<J>, AllocError>
         requires plan { plan.now ≡ J.plan }
-        ensures lengths { IfOk result (λ c. c.lengths ≡ replicate J.plan.stages (replicate (length (sources_of J.plan)) 0)) }
+        ensures lengths { IfOk result (λ c. c.lengths
+            ≡ replicate J.plan.stages (replicate (length (sources_of J.plan)) 0)) }
         ensures seen { IfOk result (λ c. IsPrefix part.now c.seen) }
     {
         let mut fronts = Vec::new(alloc);
@@ -198,7 +203,8 @@ impl<J: Naming> Cut<J> {
         requires source { source < length (sources_of J.plan) }
         requires base { source_at J.plan source ≡ front.now.base }
         ensures lengths { self.new.lengths ≡ with_length self.old.lengths stage source front.now.len }
-        ensures fronts { fronts J.plan self.new ≡ with_front (fronts J.plan self.old) stage source (entries front.now) }
+        ensures fronts { fronts J.plan self.new ≡ with_front (fronts J.plan self.old) stage source
+            (entries front.now) }
         ensures seen { IsPrefix self.old.seen self.new.seen }
         ensures others { IsPrefix front.now.seen self.new.seen }
     {

@@ -34,7 +34,8 @@ impl<J: Naming> Model for Front<J> {
 
     ghost view = { λ f. record { base = f.base; len = f.len; seen = history_of f.seen.log } };
 
-    ghost invariant = { λ f. (f.seen.book ≡ J.book) × IsLogOf J.plan J.sessions f.seen.log × IsFront J.plan (record { base = f.base; len = f.len; seen = history_of f.seen.log }) };
+    ghost invariant = { λ f. (f.seen.book ≡ J.book) × IsLogOf J.plan J.sessions f.seen.log
+        × IsFront J.plan (record { base = f.base; len = f.len; seen = history_of f.seen.log }) };
 }
 
 /// What an append asks for.
@@ -145,7 +146,8 @@ impl<J: Naming> Front<J> {
         entry: &Entry,
     ) -> Result<(), Moved>
         requires { MayAppend J.plan self.old session number (change_of entry.now) }
-        ensures appended { OnOk result (IsAppended J.plan self.old session number (change_of entry.now) self.new) }
+        ensures appended { OnOk result (IsAppended J.plan self.old session number
+            (change_of entry.now) self.new) }
         ensures moved { OnErr result (IsMoved self.old self.new) }
     {
         let asked = Writing {

@@ -30,7 +30,8 @@ impl<J: Naming> Model for Part<J> {
 
     ghost view = { λ x. longer (history_of x.first.log) (history_of x.second.log) };
 
-    ghost invariant = { λ x. (x.first.book ≡ J.book) × (x.second.book ≡ J.book) × IsLogOf J.plan J.sessions x.first.log × IsLogOf J.plan J.sessions x.second.log };
+    ghost invariant = { λ x. (x.first.book ≡ J.book) × (x.second.book ≡ J.book)
+        × IsLogOf J.plan J.sessions x.first.log × IsLogOf J.plan J.sessions x.second.log };
 }
 
 impl<J: Naming> Part<J> {

@@ -34,16 +34,32 @@ impl<J: Naming> Model for Written<J> {
 
     ghost Value = { WrittenView };
 
-    ghost view = { λ w. record { session = w.session; number = w.number; base = w.base; index = w.index; entry = change_of w.entry; seen = history_of w.seen.log } };
+    ghost view = { λ w. record {
+      session = w.session;
+      number = w.number;
+      base = w.base;
+      index = w.index;
+      entry = change_of w.entry;
+      seen = history_of w.seen.log;
+    } };
 
-    ghost invariant = { λ w. (w.seen.book ≡ J.book) × IsLogOf J.plan J.sessions w.seen.log × IsWritten (record { session = w.session; number = w.number; base = w.base; index = w.index; entry = change_of w.entry; seen = history_of w.seen.log }) };
+    ghost invariant = { λ w. (w.seen.book ≡ J.book) × IsLogOf J.plan J.sessions w.seen.log
+        × IsWritten (record {
+          session = w.session;
+          number = w.number;
+          base = w.base;
+          index = w.index;
+          entry = change_of w.entry;
+          seen = history_of w.seen.log;
+        }) };
 }
 
 impl<J: Naming> Written<J> {
     /// Whether it is the reply to this write. Cost: the length of the entry.
     pub fn is_of(&self, session: u64, number: u64, base: usize, entry: &Entry) -> bool
         ensures same { IsTrue result → IsReplyTo session number base (change_of entry.now) self.now }
-        ensures sure { IsReplyTo session number base (change_of entry.now) self.now → IsTrue result }
+        ensures sure { IsReplyTo session number base (change_of entry.now) self.now
+            → IsTrue result }
     {
         self.session == session
             && self.number == number
@@ -69,7 +85,8 @@ impl<J: Naming> Front<J> {
         entry: Entry,
     ) -> Result<Written<J>, Entry>
         requires { MayAppend J.plan self.old session number (change_of entry) }
-        ensures accepted { IfOk result (λ w. IsAccepted J.plan self.old session number (change_of entry) self.new w) }
+        ensures accepted { IfOk result (λ w. IsAccepted J.plan self.old session number
+            (change_of entry) self.new w) }
         ensures moved { IfErr result (λ e. IsMoved self.old self.new × (e ≡ entry)) }
     {
         let index = self.len;
@@ -103,7 +120,8 @@ impl<J: Naming> Front<J> {
         requires base { self.old.base ≡ reply.now.base }
         ensures stays { self.new ≡ record self.old { seen = self.new.seen } }
         ensures sure { self.old.len ≤ reply.now.index → IsTrue result }
-        ensures told { MatchBool result (IsNews self.old.seen reply.now self.new.seen) (self.new ≡ self.old) }
+        ensures told { MatchBool result (IsNews self.old.seen reply.now self.new.seen) (self.new
+            ≡ self.old) }
     {
         if reply.index < self.len {
             return false;

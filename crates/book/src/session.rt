@@ -44,9 +44,20 @@ impl<J: Naming> Model for SessionWord<J> {
 
     ghost Value = { SessionView };
 
-    ghost view = { λ x. record { session = x.number; answered = x.answered; floors = x.floors; seen = history_of x.seen.log } };
+    ghost view = { λ x. record {
+      session = x.number;
+      answered = x.answered;
+      floors = x.floors;
+      seen = history_of x.seen.log;
+    } };
 
-    ghost invariant = { λ x. (x.seen.book ≡ J.book) × IsLogOf J.plan J.sessions x.seen.log × IsSession J.plan J.sessions (record { session = x.number; answered = x.answered; floors = x.floors; seen = history_of x.seen.log }) };
+    ghost invariant = { λ x. (x.seen.book ≡ J.book) × IsLogOf J.plan J.sessions x.seen.log
+        × IsSession J.plan J.sessions (record {
+          session = x.number;
+          answered = x.answered;
+          floors = x.floors;
+          seen = history_of x.seen.log;
+        }) };
 }
 
 /// What an answer asks for.
@@ -99,7 +110,8 @@ impl<J: Naming> SessionWord<J> {
     ) -> Result<SessionWord<J>, AllocError>
         requires plan { plan.now ≡ J.plan }
         requires number { number < J.sessions }
-        ensures { IfOk result (λ s. (s.session ≡ number) × (s.answered ≡ 0) × (s.seen ≡ front.now.seen) × ((v j : ℕ) → floor_at s.floors v j ≡ [])) }
+        ensures { IfOk result (λ s. (s.session ≡ number) × (s.answered ≡ 0)
+            × (s.seen ≡ front.now.seen) × ((v j : ℕ) → floor_at s.floors v j ≡ [])) }
     {
         let floors = Floors::zeros(alloc, plan)?;
         Ok(SessionWord {
@@ -165,10 +177,12 @@ impl<J: Naming> SessionWord<J> {
         requires shard { shard ≡ view_shard J.plan view (datum_of key.now) }
         requires within { shard < (view_at J.plan view).shards }
         requires floor { IsAtMost (floor_at self.old.floors view shard) cut.lengths }
-        requires rows { rows.now.items ≡ answer_of J.plan (fronts J.plan cut) view (datum_of key.now) }
+        requires rows { rows.now.items ≡ answer_of J.plan (fronts J.plan cut) view
+            (datum_of key.now) }
         requires room { self.old.answered + 1 < 2 ^ 64 }
         ensures others { IsPrefix cut.seen self.new.seen }
-        ensures answered { OnOk result (IsRead J.plan self.old view shard (datum_of key.now) rows.now.items cut.lengths self.new) }
+        ensures answered { OnOk result (IsRead J.plan self.old view shard (datum_of key.now)
+            rows.now.items cut.lengths self.new) }
         ensures stolen { OnErr result (IsStolen J.plan self.old self.new) }
     {
         let Cut {
@@ -193,12 +207,15 @@ impl<J: Naming> SessionWord<J> {
     /// Ends a fence with a cut for each shard of each view. Errors: where the session's word has
     /// moved; then the fence has not ended. Cost: one exchange of the session's word.
     pub fn fence(&mut self, book: &Book<J>, own: &Vec<Place>, cuts: Cuts<J>) -> Result<(), Moved>
-        requires floors { EachShard J.plan (λ v j. IsAtMost (floor_at self.old.floors v j) (floor_at cuts.floors v j)) }
-        requires past { EachShard J.plan (λ v j. Each (IsPast J.plan (floor_at cuts.floors v j)) (places_of own.now.items)) }
+        requires floors { EachShard J.plan (λ v j. IsAtMost (floor_at self.old.floors v j)
+            (floor_at cuts.floors v j)) }
+        requires past { EachShard J.plan (λ v j. Each (IsPast J.plan (floor_at cuts.floors v j))
+            (places_of own.now.items)) }
         requires own { Each (IsOwn J.plan self.old.seen self.old.session) (places_of own.now.items) }
         requires room { self.old.answered + 1 < 2 ^ 64 }
         ensures others { IsPrefix cuts.seen self.new.seen }
-        ensures fenced { OnOk result (IsEnded J.plan self.old (places_of own.now.items) cuts.floors self.new) }
+        ensures fenced { OnOk result (IsEnded J.plan self.old (places_of own.now.items) cuts.floors
+            self.new) }
         ensures stolen { OnErr result (IsStolen J.plan self.old self.new) }
     {
         let Cuts {

@@ -25,7 +25,8 @@ pub(crate) fn try_add<J: Naming, X, M: Plain<X, LogPage, u64>>(
     ensures book { seen.new.book ≡ J.book }
     ensures of { IsLogOf J.plan J.sessions seen.new.log }
     ensures grown { IsPrefix seen.old.log seen.new.log }
-    ensures done { OnOk result (IsDone J.plan key old (M.ask asked.now) (history_of seen.old.log) (history_of seen.new.log)) }
+    ensures done { OnOk result (IsDone J.plan key old (M.ask asked.now) (history_of seen.old.log)
+        (history_of seen.new.log)) }
     ensures moved { OnErr result (old < count_at J.plan key (history_of seen.new.log)) }
 {
     let mut offer: Offer<LogPage, u64, Law, Nothing> = seen.plain::<Nothing, X, M>(asked);

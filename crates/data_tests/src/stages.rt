@@ -27,7 +27,7 @@ fn take(bag: &mut Bag, row: &Row) -> bool {
 fn turn(alloc: Global, bag: &mut Bag, records: &[Record]) -> Result<bool, AllocError> {
     for record in records {
         if record.sign == Sign::Plus {
-            bag.add(record.row.copied(alloc)?)?;
+            bag.add(record.row.try_clone(alloc)?)?;
         }
     }
     let mut all = true;
@@ -58,7 +58,8 @@ type Keyed = (Shape, usize, usize);
 fn whole(alloc: Global, of: Keyed, lefts: &[Row], rights: &[Row]) -> Result<Bag, Fail> {
     let (shape, left, right) = of;
     let lefts_fit = have_column(left, lefts) && all_fit_64_bits(shape.aggregate_of_left(), lefts);
-    let rights_fit = have_column(right, rights) && all_fit_64_bits(shape.aggregate_of_right(), rights);
+    let rights_fit = have_column(right, rights)
+        && all_fit_64_bits(shape.aggregate_of_right(), rights);
     if !lefts_fit || !rights_fit {
         return Err(Fail::from("no such output"));
     }
@@ -286,7 +287,7 @@ fn any_gain(alloc: Global, seed: &mut u64) -> Result<Record, AllocError> {
 fn any_loss(alloc: Global, seed: &mut u64, rows: &[Row]) -> Result<Option<Record>, AllocError> {
     match rows.get(next(seed, 24) as usize) {
         Some(row) => {
-            let row = row.copied(alloc)?;
+            let row = row.try_clone(alloc)?;
             let sign = Sign::Minus;
             Ok(Some(Record { row, sign }))
         }

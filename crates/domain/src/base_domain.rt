@@ -299,7 +299,7 @@ fn ready_for(alloc: Global, shard: &mut BaseShard, entry: &Entry) -> Result<Read
     ensures front { (front : List Change) → IsAt shard.old front → IsAt shard.new front }
 {
     let changes = shard.changes(alloc, entry)?;
-    let kept = entry.copied(alloc)?;
+    let kept = entry.try_clone(alloc)?;
     match shard.reserve(alloc, entry) {
         Ok(()) => Ok(Ready { kept, changes }),
         Err(_) => Err(AllocError),

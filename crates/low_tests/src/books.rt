@@ -159,7 +159,7 @@ fn has_zeros<J: Naming>(alloc: Global, plan: &Plan, front: &Front<J>) -> Result<
 }
 
 fn is_copied(alloc: Global, entry: Entry) -> Result<bool, AllocError> {
-    Ok(entry.copied(alloc)?.is_same(&entry))
+    Ok(entry.try_clone(alloc)?.is_same(&entry))
 }
 
 #[test]

@@ -150,7 +150,7 @@ fn is_copied(alloc: Global) -> Result<bool, AllocError> {
         row: row(alloc, &[Int(3), Text("a b")])?,
         sign: Sign::Minus,
     };
-    let copy = record.copied(alloc)?;
+    let copy = record.try_clone(alloc)?;
     Ok(copy.row == record.row && copy.sign == record.sign)
 }
 
@@ -181,9 +181,8 @@ fn exchange(alloc: Global) -> Result<Vec<Record>, AllocError>
 fn fill(found: &mut Grouped, alloc: Global) -> Result<(), AllocError>
     requires { found.old.column ≡ 1 }
 {
-    for id in 1..3 {
-        found.add(alloc, &signed(alloc, id, Sign::Plus)?.row)?;
-    }
+    found.add(alloc, &signed(alloc, 1, Sign::Plus)?.row)?;
+    found.add(alloc, &signed(alloc, 2, Sign::Plus)?.row)?;
     found.apply(alloc, exchange(alloc)?.as_slice())
 }
 

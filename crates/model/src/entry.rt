@@ -45,13 +45,13 @@ impl Entry {
     }
 
     /// A second entry that is equal. Copies its row or key.
-    pub fn copied(&self, alloc: Global) -> Result<Entry, AllocError>
+    pub fn try_clone(&self, alloc: Global) -> Result<Entry, AllocError>
         ensures { IfOk result (λ e. change_of e ≡ change_of self.now) }
     {
         match self {
-            Entry::Insert(row) => Ok(Entry::Insert(row.copied(alloc)?)),
-            Entry::Delete(key) => Ok(Entry::Delete(key.copied(alloc)?)),
-            Entry::Update(row) => Ok(Entry::Update(row.copied(alloc)?)),
+            Entry::Insert(row) => Ok(Entry::Insert(row.try_clone(alloc)?)),
+            Entry::Delete(key) => Ok(Entry::Delete(key.try_clone(alloc)?)),
+            Entry::Update(row) => Ok(Entry::Update(row.try_clone(alloc)?)),
         }
     }
 }

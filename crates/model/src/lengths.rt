@@ -67,7 +67,7 @@ impl Lengths {
     }
 
     /// The same lengths in memory of their own. Errors: memory only.
-    pub fn again(&self, alloc: Global) -> Result<Lengths, AllocError>
+    pub fn try_clone(&self, alloc: Global) -> Result<Lengths, AllocError>
         ensures { IfOk result (λ c. c ≡ self.now) }
     {
         let mut lines = Vec::new(alloc);

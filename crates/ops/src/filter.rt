@@ -20,7 +20,7 @@ pub fn full(alloc: Global, side: &Side, rows: &[Row]) -> Result<Bag, AllocError>
     let mut bag = Bag::new(alloc);
     for row in rows {
         if side.pass(row) {
-            bag.add(row.copied(alloc)?)?;
+            bag.add(row.try_clone(alloc)?)?;
         }
     }
     Ok(bag)
@@ -31,12 +31,14 @@ pub fn full(alloc: Global, side: &Side, rows: &[Row]) -> Result<Bag, AllocError>
 /// each record, and a copy of each that passes.
 pub fn step(alloc: Global, side: &Side, records: &[Record]) -> Result<Vec<Record>, AllocError>
     ensures records { IfOk result (λ v. v.items ≡ kept side.now.conditions records.now) }
-    ensures difference { (before after : List Cells) → Turns before records.now after → IfOk result (λ v. Turns (filter (pass side.now.conditions) before) v.items (filter (pass side.now.conditions) after)) }
+    ensures difference { (before after : List Cells) → Turns before records.now after
+        → IfOk result (λ v. Turns (filter (pass side.now.conditions) before) v.items
+        (filter (pass side.now.conditions) after)) }
 {
     let mut all = Vec::new(alloc);
     for record in records {
         if side.pass(&record.row) {
-            all.push(record.copied(alloc)?)?;
+            all.push(record.try_clone(alloc)?)?;
         }
     }
     Ok(all)

@@ -1,4 +1,4 @@
--- Bags of rows keep the laws of a gather, by how often each row is there.
+-- Bags of rows keep the laws of a gather, by how often each row is there. No public clause cites it.
 use Rattle.std.proofs.Common.{◌≡◌, ◌+◌, ◌≤◌, List, [], ◌∷◌, ◌++◌, arith}
 use Rattle.row.specs.Cells.{Cells, row_cmp}
 use Rattle.row.specs.CellOrder.{row_total, row_same}

@@ -54,11 +54,12 @@ fn sum(alloc: Global, pieces: Vec<Bag>) -> Result<Bag, AllocError>
 
 /// Adds each row of the piece.
 fn add_all(all: &mut Bag, alloc: Global, piece: &Bag) -> Result<(), AllocError>
-    ensures counts { OnOk result ((z : Cells) → times row_cmp z all.new ≡ times row_cmp z all.old + times row_cmp z piece.now) }
+    ensures counts { OnOk result ((z : Cells) → times row_cmp z all.new
+        ≡ times row_cmp z all.old + times row_cmp z piece.now) }
     ensures in_order { OnOk result (IsAscending row_cmp all.new) }
 {
     for row in piece.rows() {
-        all.add(row.copied(alloc)?)?;
+        all.add(row.try_clone(alloc)?)?;
     }
     let _ = all.rows();
     Ok(())

@@ -66,7 +66,8 @@ impl<K: Eq + Hash + Drop, E: Drop> Filled<K, E> {
     pub fn fill(&mut self, key: K, entry: E) -> Result<(), AllocError>
         requires { lookup (K.eq key) self.old ≡ None }
         ensures filled { OnOk result (self.new ≡ self.old ++ (key, entry) ∷ []) }
-        ensures entries { OnOk result ((k : K) → lookup (K.eq k) self.new ≡ (if K.eq key k then Some entry else lookup (K.eq k) self.old)) }
+        ensures entries { OnOk result ((k : K) → lookup (K.eq k) self.new
+            ≡ (if K.eq key k then Some entry else lookup (K.eq k) self.old)) }
         ensures err { OnErr result (self.new ≡ self.old) }
     {
         let _ = self.latest.len();
@@ -78,7 +79,8 @@ impl<K: Eq + Hash + Drop, E: Drop> Filled<K, E> {
     /// time.
     pub fn remove(&mut self, key: &K) -> bool
         ensures known { result ≡ is_some (lookup (K.eq key.now) self.old) }
-        ensures entries { (k : K) → lookup (K.eq k) self.new ≡ (if K.eq key.now k then None else lookup (K.eq k) self.old) }
+        ensures entries { (k : K) → lookup (K.eq k) self.new
+            ≡ (if K.eq key.now k then None else lookup (K.eq k) self.old) }
         ensures order { keys_of self.new ≡ remove_key (K.eq key.now) (keys_of self.old) }
     {
         let _ = self.latest.len();
@@ -90,7 +92,8 @@ impl<K: Eq + Hash + Drop, E: Drop> Filled<K, E> {
     pub fn remove_oldest(&mut self) -> Option<K>
         ensures key { result ≡ slice_get (keys_of self.old) 0 }
         ensures entries { self.new ≡ drop 1 self.old }
-        ensures gone { IfSome result (λ key. (k : K) → lookup (K.eq k) self.new ≡ (if K.eq key k then None else lookup (K.eq k) self.old)) }
+        ensures gone { IfSome result (λ key. (k : K) → lookup (K.eq k) self.new
+            ≡ (if K.eq key k then None else lookup (K.eq k) self.old)) }
     {
         let _ = self.latest.len();
         let (key, _) = self.latest.pop_lru()?;
@@ -111,8 +114,10 @@ impl<K: Eq + Hash + Drop, E: Gather> Filled<K, E> {
     /// left of that entry is not said. Constant time, and that of the change.
     pub fn apply(&mut self, alloc: Global, key: &K, change: &E::Change) -> Result<(), AllocError>
         requires { ForSome (lookup (K.eq key.now) self.old) (λ e. E.fits e change.now) }
-        ensures applied { OnOk result (lookup (K.eq key.now) self.new ≡ option_map (λ e. E.plus e change.now) (lookup (K.eq key.now) self.old)) }
-        ensures others { (k : K) → K.eq key.now k ≡ false → lookup (K.eq k) self.new ≡ lookup (K.eq k) self.old }
+        ensures applied { OnOk result (lookup (K.eq key.now) self.new
+            ≡ option_map (λ e. E.plus e change.now) (lookup (K.eq key.now) self.old)) }
+        ensures others { (k : K) → K.eq key.now k ≡ false → lookup (K.eq k) self.new
+            ≡ lookup (K.eq k) self.old }
         ensures order { keys_of self.new ≡ keys_of self.old }
     {
         let _ = self.latest.len();

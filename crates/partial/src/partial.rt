@@ -40,9 +40,17 @@ impl<K: Eq + Hash, E> Model for Partial<K, E> {
 
     ghost Value = { Kept K E };
 
-    ghost view = { λ p. record { sources = p.sources; filled = p.filled; waiting = p.waiting.entries } };
+    ghost view = { λ p. record {
+      sources = p.sources;
+      filled = p.filled;
+      waiting = p.waiting.entries;
+    } };
 
-    ghost invariant = { λ p. IsApart K.eq record { sources = p.sources; filled = p.filled; waiting = p.waiting.entries } };
+    ghost invariant = { λ p. IsApart K.eq record {
+      sources = p.sources;
+      filled = p.filled;
+      waiting = p.waiting.entries;
+    } };
 }
 
 impl<K: Eq + Hash + Drop, E: Drop> Partial<K, E> {
@@ -120,10 +128,13 @@ impl<K: Eq + Hash + Drop, E: Gather> Partial<K, E> {
     pub fn begin(&mut self, alloc: Global, key: K) -> Result<bool, AllocError>
         ensures sources { self.new.sources ≡ self.old.sources }
         ensures began { IfOk result (λ began. began ≡ is_hole (state_of K.eq self.old key)) }
-        ensures waits { OnOk result (state_of K.eq self.new key ≡ begun self.old.sources (state_of K.eq self.old key)) }
+        ensures waits { OnOk result (state_of K.eq self.new key
+            ≡ begun self.old.sources (state_of K.eq self.old key)) }
         ensures others { OthersStay K.eq key self.old self.new }
         ensures order { order_of self.new ≡ order_of self.old }
-        ensures truth { (parts : List E) → length parts ≡ self.old.sources → IsTrueOf E.total parts (state_of K.eq self.old key) → OnOk result (IsTrueOf E.total parts (state_of K.eq self.new key)) }
+        ensures truth { (parts : List E) → length parts ≡ self.old.sources
+            → IsTrueOf E.total parts (state_of K.eq self.old key)
+            → OnOk result (IsTrueOf E.total parts (state_of K.eq self.new key)) }
         ensures err { OnErr result (self.new ≡ self.old) }
     {
         if self.filled.get(&key).is_some() || self.waiting.contains_key(&key) {
@@ -147,12 +158,18 @@ impl<K: Eq + Hash + Drop, E: Gather> Partial<K, E> {
         piece: E,
     ) -> Result<bool, AllocError>
         ensures sources { self.new.sources ≡ self.old.sources }
-        ensures fills { IfOk result (λ filled. filled ≡ fills source piece (state_of K.eq self.old key.now)) }
-        ensures given { OnOk result (state_of K.eq self.new key.now ≡ after_piece E.total source piece (state_of K.eq self.old key.now)) }
+        ensures fills { IfOk result (λ filled. filled
+            ≡ fills source piece (state_of K.eq self.old key.now)) }
+        ensures given { OnOk result (state_of K.eq self.new key.now
+            ≡ after_piece E.total source piece (state_of K.eq self.old key.now)) }
         ensures others { OthersStay K.eq key.now self.old self.new }
-        ensures last { IfOk result (λ filled. filled ≡ true → GoesLast K.eq key.now (order_of self.old) (order_of self.new)) }
-        ensures order { IfOk result (λ filled. filled ≡ false → order_of self.new ≡ order_of self.old) }
-        ensures truth { (parts : List E) → slice_get parts source ≡ Some piece → IsTrueOf E.total parts (state_of K.eq self.old key.now) → OnOk result (IsTrueOf E.total parts (state_of K.eq self.new key.now)) }
+        ensures last { IfOk result (λ filled. filled ≡ true
+            → GoesLast K.eq key.now (order_of self.old) (order_of self.new)) }
+        ensures order { IfOk result (λ filled. filled ≡ false → order_of self.new
+            ≡ order_of self.old) }
+        ensures truth { (parts : List E) → slice_get parts source ≡ Some piece
+            → IsTrueOf E.total parts (state_of K.eq self.old key.now)
+            → OnOk result (IsTrueOf E.total parts (state_of K.eq self.new key.now)) }
         ensures err { OnErr result (order_of self.new ≡ order_of self.old) }
     {
         match take_whole(&mut self.waiting, key, source, piece) {
@@ -178,10 +195,14 @@ impl<K: Eq + Hash + Drop, E: Gather> Partial<K, E> {
     ) -> Result<(), AllocError>
         requires { ChangeFits E.fits source change.now (state_of K.eq self.old key.now) }
         ensures sources { self.new.sources ≡ self.old.sources }
-        ensures applied { OnOk result (state_of K.eq self.new key.now ≡ after_change E.plus source change.now (state_of K.eq self.old key.now)) }
+        ensures applied { OnOk result (state_of K.eq self.new key.now
+            ≡ after_change E.plus source change.now (state_of K.eq self.old key.now)) }
         ensures others { OthersStay K.eq key.now self.old self.new }
         ensures order { order_of self.new ≡ order_of self.old }
-        ensures truth { (parts : List E) (part : E) → slice_get parts source ≡ Some part → E.fits part change.now → IsTrueOf E.total parts (state_of K.eq self.old key.now) → OnOk result (IsTrueOf E.total (slice_set parts source (E.plus part change.now)) (state_of K.eq self.new key.now)) }
+        ensures truth { (parts : List E) (part : E) → slice_get parts source ≡ Some part
+            → E.fits part change.now → IsTrueOf E.total parts (state_of K.eq self.old key.now)
+            → OnOk result (IsTrueOf E.total (slice_set parts source (E.plus part change.now))
+            (state_of K.eq self.new key.now)) }
     {
         match self.waiting.get_mut(key) {
             Some(pieces) => pieces.apply(alloc, source, change),
@@ -195,10 +216,13 @@ impl<K: Eq + Hash + Drop, E: Gather> Partial<K, E> {
     pub fn evict(&mut self, key: &K, source: Option<usize>) -> Evicted
         ensures sources { self.new.sources ≡ self.old.sources }
         ensures says { result ≡ says_evicted source (state_of K.eq self.old key.now) }
-        ensures evicted { state_of K.eq self.new key.now ≡ evicted source (state_of K.eq self.old key.now) }
+        ensures evicted { state_of K.eq self.new key.now
+            ≡ evicted source (state_of K.eq self.old key.now) }
         ensures others { OthersStay K.eq key.now self.old self.new }
         ensures order { order_of self.new ≡ remove_key (K.eq key.now) (order_of self.old) }
-        ensures truth { (parts : List E) (part : E) → IsTrueOf E.total parts (state_of K.eq self.old key.now) → IsTrueOf E.total (with_part source part parts) (state_of K.eq self.new key.now) }
+        ensures truth { (parts : List E) (part : E)
+            → IsTrueOf E.total parts (state_of K.eq self.old key.now)
+            → IsTrueOf E.total (with_part source part parts) (state_of K.eq self.new key.now) }
     {
         if self.filled.remove(key) {
             Evicted::Entry

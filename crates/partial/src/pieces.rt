@@ -102,7 +102,8 @@ impl<E: Gather> Pieces<E> {
         change: &E::Change,
     ) -> Result<(), AllocError>
         requires { PieceFits E.fits change.now (slice_get self.old source) }
-        ensures { OnOk result (self.new ≡ piece_changed E.plus change.now source self.old (slice_get self.old source)) }
+        ensures { OnOk result (self.new ≡ piece_changed E.plus change.now source self.old
+            (slice_get self.old source)) }
     {
         if source < self.places.len() {
             apply_at(&mut self.places[source], alloc, change)

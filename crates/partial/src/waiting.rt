@@ -16,8 +16,10 @@ fn put_piece<K: Eq + Hash, E: Drop>(
     source: usize,
     piece: E,
 ) -> bool
-    ensures unknown { get K.eq waiting.old key.now ≡ None → (result ≡ false) × (waiting.new.entries ≡ waiting.old.entries) }
-    ensures put { IfSome (get K.eq waiting.old key.now) (λ ps. (result ≡ completes source piece ps) × Updates K.eq waiting.old waiting.new key.now (Some (given source piece ps))) }
+    ensures unknown { get K.eq waiting.old key.now ≡ None → (result ≡ false)
+        × (waiting.new.entries ≡ waiting.old.entries) }
+    ensures put { IfSome (get K.eq waiting.old key.now) (λ ps. (result ≡ completes source piece ps)
+        × Updates K.eq waiting.old waiting.new key.now (Some (given source piece ps))) }
 {
     match waiting.get_mut(key) {
         Some(pieces) => pieces.put(source, piece),
@@ -33,11 +35,16 @@ pub(crate) fn take_whole<K: Eq + Hash + Drop, E: Drop>(
     source: usize,
     piece: E,
 ) -> Option<(K, Pieces<E>)>
-    ensures unknown { get K.eq waiting.old key.now ≡ None → (result ≡ None) × (waiting.new.entries ≡ waiting.old.entries) }
-    ensures waits { IfNone result (IfSome (get K.eq waiting.old key.now) (λ ps. (completes source piece ps ≡ false) × Updates K.eq waiting.old waiting.new key.now (Some (given source piece ps)))) }
-    ensures whole { IfSome result (λ p. IfSome (get K.eq waiting.old key.now) (λ ps. (completes source piece ps ≡ true) × (p.1 ≡ given source piece ps))) }
+    ensures unknown { get K.eq waiting.old key.now ≡ None → (result ≡ None)
+        × (waiting.new.entries ≡ waiting.old.entries) }
+    ensures waits { IfNone result (IfSome (get K.eq waiting.old key.now)
+        (λ ps. (completes source piece ps ≡ false) × Updates K.eq waiting.old waiting.new key.now
+        (Some (given source piece ps)))) }
+    ensures whole { IfSome result (λ p. IfSome (get K.eq waiting.old key.now)
+        (λ ps. (completes source piece ps ≡ true) × (p.1 ≡ given source piece ps))) }
     ensures stored { IfSome result (λ p. K.eq key.now p.0 ≡ true) }
-    ensures taken { IfSome result (λ p. (k : K) → get K.eq waiting.new k ≡ (if K.eq key.now k then None else get K.eq waiting.old k)) }
+    ensures taken { IfSome result (λ p. (k : K) → get K.eq waiting.new k
+        ≡ (if K.eq key.now k then None else get K.eq waiting.old k)) }
 {
     if put_piece(waiting, key, source, piece) {
         waiting.swap_remove_entry(key)
@@ -52,8 +59,11 @@ pub(crate) fn drop_piece<K: Eq + Hash, E: Drop>(
     key: &K,
     source: usize,
 ) -> bool
-    ensures unknown { get K.eq waiting.old key.now ≡ None → (result ≡ false) × (waiting.new.entries ≡ waiting.old.entries) }
-    ensures dropped { IfSome (get K.eq waiting.old key.now) (λ ps. (result ≡ is_here (slice_get ps source)) × Updates K.eq waiting.old waiting.new key.now (Some (slice_set ps source None))) }
+    ensures unknown { get K.eq waiting.old key.now ≡ None → (result ≡ false)
+        × (waiting.new.entries ≡ waiting.old.entries) }
+    ensures dropped { IfSome (get K.eq waiting.old key.now)
+        (λ ps. (result ≡ is_here (slice_get ps source))
+        × Updates K.eq waiting.old waiting.new key.now (Some (slice_set ps source None))) }
 {
     match waiting.get_mut(key) {
         Some(pieces) => pieces.drop_piece(source),

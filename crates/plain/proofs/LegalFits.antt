@@ -14,7 +14,8 @@ use Rattle.model.specs.Cuts.{line_of, fronts_of}
 use Rattle.model.specs.Legal.{IsLegalAfter, IsLegal}
 use Rattle.model.proofs.PlaceLaws.{base_layout}
 use Rattle.plain.specs.Fitting.{all_fit, right_fit, is_line}
-use Rattle.plain.proofs.Fits.{and_both, and_left, and_right, all_append}
+use Rattle.plan.proofs.Both.{and_both, and_left, and_right}
+use Rattle.plain.proofs.Fits.{all_append}
 use Rattle.model.proofs.Lists.{each_of}
 
 -- each entry of the base shard's log fits the table

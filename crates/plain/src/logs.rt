@@ -21,7 +21,7 @@ fn push_entry(
 {
     if let Item::Write(write) = item {
         if write.base == base {
-            entries.push(write.entry.copied(alloc)?)?;
+            entries.push(write.entry.try_clone(alloc)?)?;
         }
     }
     Ok(())

@@ -40,7 +40,7 @@ fn changed(alloc: Global, key: usize, rows: Vec<Row>, entry: &Entry) -> Result<V
 fn with(alloc: Global, mut rows: Vec<Row>, row: &Row) -> Result<Vec<Row>, AllocError>
     ensures { IfOk result (λ after. after.items ≡ rows.items ++ row.now ∷ []) }
 {
-    rows.push(row.copied(alloc)?)?;
+    rows.push(row.try_clone(alloc)?)?;
     Ok(rows)
 }
 
@@ -61,7 +61,7 @@ fn replaced(alloc: Global, key: usize, rows: Vec<Row>, row: &Row) -> Result<Vec<
     let value = row.cell_or(key, &zero);
     let mut after = Vec::new(alloc);
     for old in &rows {
-        after.push(updated(old, key, value, row).copied(alloc)?)?;
+        after.push(updated(old, key, value, row).try_clone(alloc)?)?;
     }
     Ok(after)
 }

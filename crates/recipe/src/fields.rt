@@ -125,7 +125,8 @@ pub(crate) fn paired<'a>(
     field: &'static str,
     partner: &'static str,
 ) -> Result<Option<&'a str>, PlanError>
-    ensures { Gives option_copied result (paired (get field.now (view member.now)) (get partner.now (view member.now))) }
+    ensures { Gives option_copied result (paired (get field.now (view member.now))
+        (get partner.now (view member.now))) }
 {
     match member.get(field) {
         Some(value) => Ok(Some(text_in(value, part, field)?)),

@@ -87,7 +87,8 @@ fn table_at(alloc: Global, value: &Value, part: Part) -> Result<Table, PlanError
 
 /// The columns of a table, which are needed.
 fn columns(alloc: Global, member: &Value, part: Part) -> Result<Vec<Column>, PlanError>
-    ensures { Gives (λ v. v.items) result (needed columns_at (get (codes "columns") (view member.now))) }
+    ensures { Gives (λ v. v.items) result (needed columns_at
+        (get (codes "columns") (view member.now))) }
 {
     match member.get("columns") {
         Some(value) => columns_at(alloc, value, part),
@@ -108,7 +109,8 @@ fn tables_of(alloc: Global, list: &[Value]) -> Result<Vec<Table>, PlanError>
 
 /// The tables of a document, which are needed.
 fn tables(alloc: Global, document: &Value) -> Result<Vec<Table>, PlanError>
-    ensures { Gives (λ v. v.items) result (needed tables_at (get (codes "table") (view document.now))) }
+    ensures { Gives (λ v. v.items) result (needed tables_at
+        (get (codes "table") (view document.now))) }
 {
     match document.get("table") {
         Some(value) => tables_at(alloc, value),
@@ -156,7 +158,8 @@ fn views_of(
     rights: &[Column],
     list: &[Value],
 ) -> Result<Vec<ViewPlan>, PlanError>
-    ensures { Gives (λ v. v.items) result (each (view_at lefts.now rights.now) (items_view list.now)) }
+    ensures { Gives (λ v. v.items) result (each (view_at lefts.now rights.now)
+        (items_view list.now)) }
 {
     let mut views = Vec::new(alloc);
     for (at, value) in list.iter().enumerate() {
@@ -186,7 +189,8 @@ fn views(
     rights: &[Column],
     document: &Value,
 ) -> Result<Vec<ViewPlan>, PlanError>
-    ensures { Gives (λ v. v.items) result (needed (views_at lefts.now rights.now) (get (codes "view") (view document.now))) }
+    ensures { Gives (λ v. v.items) result (needed (views_at lefts.now rights.now)
+        (get (codes "view") (view document.now))) }
 {
     match document.get("view") {
         Some(value) => views_at(alloc, lefts, rights, value),

@@ -152,7 +152,8 @@ fn conditions_at(
 
 /// The conditions of the left side, if there are any.
 fn left_where(alloc: Global, columns: &[Column], stage: &Value) -> Result<Vec<Condition>, PlanError>
-    ensures { Gives (λ v. v.items) result (optional [] (conditions_at columns.now) (get (codes "left_where") (view stage.now))) }
+    ensures { Gives (λ v. v.items) result (optional [] (conditions_at columns.now)
+        (get (codes "left_where") (view stage.now))) }
 {
     match stage.get("left_where") {
         Some(value) => conditions_at(alloc, columns, value, Way::Left),
@@ -167,7 +168,8 @@ fn right_where(
     right: Option<&str>,
     stage: &Value,
 ) -> Result<Vec<Condition>, PlanError>
-    ensures { Gives (λ v. v.items) result (right_conditions columns.now (option_copied right.entry) (get (codes "right_where") (view stage.now))) }
+    ensures { Gives (λ v. v.items) result (right_conditions columns.now (option_copied right.entry)
+        (get (codes "right_where") (view stage.now))) }
 {
     match stage.get("right_where") {
         None => Ok(Vec::new(alloc)),
@@ -196,7 +198,8 @@ fn word_at(value: &Value) -> Result<Option<Word>, PlanError>
 
 /// The aggregate that the stage names, if it names one, without its column.
 fn word(stage: &Value) -> Result<Option<Word>, PlanError>
-    ensures { Gives (λ w. w) result (optional None word_at (get (codes "aggregate") (view stage.now))) }
+    ensures { Gives (λ w. w) result (optional None word_at
+        (get (codes "aggregate") (view stage.now))) }
 {
     match stage.get("aggregate") {
         Some(value) => word_at(value),
@@ -210,7 +213,8 @@ fn aggregate_of(
     word: Option<Word>,
     sum: Option<&Value>,
 ) -> Result<Option<Aggregate>, PlanError>
-    ensures { Gives (λ a. a) result (aggregate_of columns.now word (option_map (λ v. view v.now) sum.entry)) }
+    ensures { Gives (λ a. a) result (aggregate_of columns.now word
+        (option_map (λ v. view v.now) sum.entry)) }
 {
     match (word, sum) {
         (None, None) => Ok(None),
@@ -270,7 +274,8 @@ fn right_side(
     key: Option<&str>,
     conditions: Vec<Condition>,
 ) -> Option<Side>
-    ensures { result ≡ right_side tables.now (option_copied right.entry) (option_copied key.entry) conditions.items }
+    ensures { result ≡ right_side tables.now (option_copied right.entry) (option_copied key.entry)
+        conditions.items }
 {
     match (right, key) {
         (Some(name), Some(key)) => Some(side_of(tables, name, key, conditions)),
@@ -293,7 +298,13 @@ impl Model for StageParts {
 
     ghost Value = { StageLayout };
 
-    ghost view = { λ s. record { shards = s.shards; left = s.left; right = s.right; aggregate = s.aggregate; cap = s.cap } };
+    ghost view = { λ s. record {
+      shards = s.shards;
+      left = s.left;
+      right = s.right;
+      aggregate = s.aggregate;
+      cap = s.cap;
+    } };
 }
 
 /// The stage of a document over these tables.
@@ -331,7 +342,8 @@ pub(crate) fn stage(
     tables: &[Table],
     document: &Value,
 ) -> Result<StageParts, PlanError>
-    ensures { Gives (λ s. s) result (needed (stage_at tables.now) (get (codes "stage") (view document.now))) }
+    ensures { Gives (λ s. s) result (needed (stage_at tables.now)
+        (get (codes "stage") (view document.now))) }
 {
     match document.get("stage") {
         Some(value) => stage_at(alloc, tables, value),

@@ -126,11 +126,12 @@ impl Bag {
 
     // Adds the record's row, where the record adds it.
     fn gain(&mut self, alloc: Global, signed: &Record) -> Result<(), AllocError>
-        ensures gained { OnOk result (self.new ≡ plus_applied signed.now.sign signed.now.row self.old) }
+        ensures gained { OnOk result (self.new ≡ plus_applied signed.now.sign signed.now.row
+            self.old) }
         ensures err { OnErr result (self.new ≡ self.old) }
     {
         match signed.sign {
-            Sign::Plus => self.add(signed.row.copied(alloc)?),
+            Sign::Plus => self.add(signed.row.try_clone(alloc)?),
             Sign::Minus => Ok(()),
         }
     }
@@ -172,7 +173,8 @@ impl Bag {
 fn place(rows: &[Row], row: &Row) -> usize
     requires { IsAscending row_cmp rows.now }
     ensures small { result ≤ length rows.now }
-    ensures place { IsPartitionPoint (λ y. is_gt (row_cmp row.now y) ≡ true) (λ y. is_gt (row_cmp row.now y) ≡ false) rows.now result }
+    ensures place { IsPartitionPoint (λ y. is_gt (row_cmp row.now y) ≡ true)
+        (λ y. is_gt (row_cmp row.now y) ≡ false) rows.now result }
 {
     rows.partition_point(|other| row.cmp(other).is_gt())
 }

@@ -86,7 +86,8 @@ impl Display for Row {
 
 /// Writes the values with one space between each two.
 fn write_values<W: fmt::Write>(f: &mut fmt::Formatter<W>, values: &[Value]) -> fmt::Result
-    ensures { WritesOnOk W.write_str_gives f.old result (spec.printed_row (map cells.datum_of values.now)) f.new }
+    ensures { WritesOnOk W.write_str_gives f.old result
+        (spec.printed_row (map cells.datum_of values.now)) f.new }
 {
     let Some((first, others)) = values.split_first() else {
         return Ok(());

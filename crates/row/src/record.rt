@@ -25,11 +25,11 @@ pub struct Record {
 impl Record {
     /// The same record in memory of its own. Errors: memory only. Cost: the length of the row and
     /// of its texts.
-    pub fn copied(&self, alloc: Global) -> Result<Record, AllocError>
+    pub fn try_clone(&self, alloc: Global) -> Result<Record, AllocError>
         ensures { IfOk result (λ r. r ≡ self.now) }
     {
         Ok(Record {
-            row: self.row.copied(alloc)?,
+            row: self.row.try_clone(alloc)?,
             sign: self.sign,
         })
     }

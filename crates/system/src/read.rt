@@ -106,7 +106,7 @@ impl<J: Naming> Session<J> {
         ensures read { IfOk result (λ a. IsRead J.plan self.old self.new view (datum_of key.now) a.rows.items a.cut) }
         ensures refused { IfErr result (λ e. IsUnread self.old self.new e) }
     {
-        let lengths = cut.lengths().again(alloc)?;
+        let lengths = cut.lengths().try_clone(alloc)?;
         self.number += 1;
         self.word.learn(&self.seen);
         let answered = self

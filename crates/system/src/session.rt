@@ -188,7 +188,7 @@ impl<J: Naming> Session<J> {
         ensures taken { IfOk result (λ k. IsTaken self.old self.new base (change_of entry) k) }
         ensures untaken { IfErr result (λ e. IsUntaken J.plan self.old self.new base (change_of entry) e) }
     {
-        let Ok(sent) = entry.copied(alloc) else {
+        let Ok(sent) = entry.try_clone(alloc) else {
             return Err(Refused::NoMemory);
         };
         let mut front = self.seen.front(base);

@@ -25,7 +25,13 @@ impl<J: Naming> Model for Delta<J> {
 
     ghost Value = { DeltaView };
 
-    ghost view = { λ d. record { view = d.view; shard = d.shard; before = d.before; after = d.after; asked = d.asked } };
+    ghost view = { λ d. record {
+      view = d.view;
+      shard = d.shard;
+      before = d.before;
+      after = d.after;
+      asked = d.asked;
+    } };
 
     ghost invariant = { λ d. IsDelta J.plan d.view d.shard d.before d.after d.changes.items };
 }
@@ -41,7 +47,13 @@ impl<J: Naming> Delta<J> {
         asked: u64,
     ) -> Delta<J>
         requires { IsDelta J.plan view shard before after changes.items }
-        ensures { result ≡ record { view = view; shard = shard; before = before; after = after; asked = asked } }
+        ensures { result ≡ record {
+          view = view;
+          shard = shard;
+          before = before;
+          after = after;
+          asked = asked;
+        } }
     {
         Delta {
             view,

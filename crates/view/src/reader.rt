@@ -91,7 +91,8 @@ impl<J: Naming> ShownReader<J> {
     pub fn look(&mut self, alloc: Global, key: &Value) -> Result<Look<J>, Refused>
         requires shard { view_shard J.plan self.old.view (datum_of key.now) ≡ self.old.shard }
         ensures later { IsLater self.old self.new }
-        ensures hit { IfOk result (OnHit (λ rows cut. (rows ≡ rows_shown J.plan self.new (datum_of key.now)) × (cut ≡ self.new.cut))) }
+        ensures hit { IfOk result (OnHit (λ rows cut.
+            (rows ≡ rows_shown J.plan self.new (datum_of key.now)) × (cut ≡ self.new.cut))) }
         ensures miss { IfOk result (OnMiss (is_shown self.new (datum_of key.now) ≡ false)) }
         ensures only { IfErr result (λ e. e ≡ Refused.NoMemory) }
     {
@@ -127,9 +128,13 @@ fn look_by<J: Naming>(
     requires of { IsOf view shard (sight_of reader.place) }
     requires shard { view_shard J.plan view (datum_of key.now) ≡ shard }
     ensures of { IsOf view shard (sight_of result.0.place) }
-    ensures later { IsLater (seen_or nothing (sight_of reader.place)) (seen_or nothing (sight_of result.0.place)) }
-    ensures hit { IfOk result.1 (OnHit (λ rows cut. (rows ≡ rows_shown J.plan (seen_or nothing (sight_of result.0.place)) (datum_of key.now)) × (cut ≡ (seen_or nothing (sight_of result.0.place)).cut))) }
-    ensures miss { IfOk result.1 (OnMiss (is_shown (seen_or nothing (sight_of result.0.place)) (datum_of key.now) ≡ false)) }
+    ensures later { IsLater (seen_or nothing (sight_of reader.place))
+        (seen_or nothing (sight_of result.0.place)) }
+    ensures hit { IfOk result.1 (OnHit (λ rows cut.
+        (rows ≡ rows_shown J.plan (seen_or nothing (sight_of result.0.place)) (datum_of key.now))
+        × (cut ≡ (seen_or nothing (sight_of result.0.place)).cut))) }
+    ensures miss { IfOk result.1 (OnMiss (is_shown (seen_or nothing (sight_of result.0.place))
+        (datum_of key.now) ≡ false)) }
     ensures only { IfErr result.1 (λ e. e ≡ Refused.NoMemory) }
 {
     match reader.enter_as::<Looks>() {
@@ -150,7 +155,8 @@ fn cut_by<J: Naming>(
 ) -> (Reader<Shown<J>, Sight, Published>, Result<Cut<J>, Refused>)
     requires of { IsOf view shard (sight_of reader.place) }
     ensures of { IsOf view shard (sight_of result.0.place) }
-    ensures later { IsLater (seen_or nothing (sight_of reader.place)) (seen_or nothing (sight_of result.0.place)) }
+    ensures later { IsLater (seen_or nothing (sight_of reader.place))
+        (seen_or nothing (sight_of result.0.place)) }
     ensures cut { IfOk result.1 (λ c. c ≡ (seen_or nothing (sight_of result.0.place)).cut) }
     ensures only { IfErr result.1 (λ e. e ≡ Refused.NoMemory) }
 {
@@ -166,7 +172,8 @@ fn cut_by<J: Naming>(
 // A copy of the key's entry and of the cut.
 fn found<J: Naming>(alloc: Global, shown: &Shown<J>, key: &Value) -> Result<Look<J>, Refused>
     requires shard { view_shard J.plan shown.now.view (datum_of key.now) ≡ shown.now.shard }
-    ensures hit { IfOk result (OnHit (λ rows cut. (rows ≡ rows_shown J.plan shown.now (datum_of key.now)) × (cut ≡ shown.now.cut))) }
+    ensures hit { IfOk result (OnHit (λ rows cut.
+        (rows ≡ rows_shown J.plan shown.now (datum_of key.now)) × (cut ≡ shown.now.cut))) }
     ensures miss { IfOk result (OnMiss (is_shown shown.now (datum_of key.now) ≡ false)) }
     ensures only { IfErr result (λ e. e ≡ Refused.NoMemory) }
 {
@@ -181,7 +188,7 @@ fn copies(alloc: Global, rows: &[Row]) -> Result<Vec<Row>, AllocError>
 {
     let mut copies = Vec::with_capacity(alloc, rows.len())?;
     for row in rows {
-        copies.push(row.copied(alloc)?)?;
+        copies.push(row.try_clone(alloc)?)?;
     }
     Ok(copies)
 }

@@ -39,7 +39,8 @@ impl<J: Naming> Model for Shown<J> {
 
     ghost view = { λ s. record { view = s.view; shard = s.shard; cut = s.cut; asked = s.asked } };
 
-    ghost invariant = { λ s. (s.rows.column ≡ key_column J.plan s.view) × IsAscending row_cmp s.rows.rows
+    ghost invariant = { λ s. (s.rows.column ≡ key_column J.plan s.view)
+        × IsAscending row_cmp s.rows.rows
         × AreAnswers J.plan s.view s.shard s.cut (rows_by s.rows) };
 }
 
@@ -87,7 +88,8 @@ impl<J: Naming> Shown<J> {
     /// The entry of the key, whose shard this is. All keys are shown, so each has one.
     pub fn entry(&self, key: &Value) -> Option<&[Row]>
         requires { view_shard J.plan self.now.view (datum_of key.now) ≡ self.now.shard }
-        ensures rows { IfSome result (λ rows. rows.now ≡ rows_shown J.plan self.now (datum_of key.now)) }
+        ensures rows { IfSome result (λ rows. rows.now
+            ≡ rows_shown J.plan self.now (datum_of key.now)) }
         ensures none { IsNone result → is_shown self.now (datum_of key.now) ≡ false }
     {
         Some(self.rows.rows_of(key))

@@ -112,9 +112,11 @@ impl<J: Naming, R: Wait + Drop> ShownWriter<J, R> {
     /// the place of each reader.
     pub fn publish(&mut self) -> Result<(), AllocError>
         requires chain { IsChain (shown self.old) (pending self.old) }
-        ensures shown { OnOk result (shown self.new ≡ fold applied (shown self.old) (pending self.old)) }
+        ensures shown { OnOk result (shown self.new
+            ≡ fold applied (shown self.old) (pending self.old)) }
         ensures done { OnOk result (pending self.new ≡ []) }
-        ensures err { OnErr result ((shown self.new ≡ shown self.old) × (pending self.new ≡ pending self.old)) }
+        ensures err { OnErr result ((shown self.new ≡ shown self.old)
+            × (pending self.new ≡ pending self.old)) }
         ensures later { IsLater (shown self.old) (shown self.new) }
         ensures seen { OnOk result (sight self.new ≡ Some (shown self.new)) }
         ensures kept { OnErr result (sight self.new ≡ sight self.old) }
@@ -135,9 +137,11 @@ fn publish_by<J: Naming, R: Wait>(
     Result<(), AllocError>,
 )
     requires chain { IsChain (shown_by writer) (pending_by writer) }
-    ensures shown { OnOk result.1 (shown_by result.0 ≡ fold applied (shown_by writer) (pending_by writer)) }
+    ensures shown { OnOk result.1 (shown_by result.0
+        ≡ fold applied (shown_by writer) (pending_by writer)) }
     ensures done { OnOk result.1 (pending_by result.0 ≡ []) }
-    ensures err { OnErr result.1 ((shown_by result.0 ≡ shown_by writer) × (pending_by result.0 ≡ pending_by writer)) }
+    ensures err { OnErr result.1 ((shown_by result.0 ≡ shown_by writer)
+        × (pending_by result.0 ≡ pending_by writer)) }
     ensures later { IsLater (shown_by writer) (shown_by result.0) }
     ensures seen { OnOk result.1 (sight_by result.0 ≡ Some (shown_by result.0)) }
     ensures kept { OnErr result.1 (sight_by result.0 ≡ sight_by writer) }

@@ -6,7 +6,7 @@ use Rattle.partial.proofs.bags.add_all.Goals as goal
 
 pub loop-row-preserved : goal.loop-row-preserved
 loop-row-preserved c = λ z.
-    rw (c.in_ok-add.ensures.added, c.in_ok-copied.ensures) (omega (
+    rw (c.in_ok-add.ensures.added, c.in_ok-try_clone.ensures) (omega (
       arith,
       times-inserted row_cmp z c.row-item.result c.loop-row.all,
       c.loop-row.invariant z,

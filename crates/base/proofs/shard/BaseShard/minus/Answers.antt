@@ -14,4 +14,4 @@ pub returns-clause-only : goal.returns-clause-only
 returns-clause-only c =
     let found : lookup (equal c.args.key.now) c.self.inside.rows.entries ≡ Some c.unwrap-row.result.now = sym c.get.ensures.value ∙ ap option_copied c.unwrap-row.ensures in
     let only = found_sorted c.self.inside.key_column c.args.key.now c.unwrap-row.result.now c.self.inside.rows.entries c.self.invariant.keyed c.self.invariant.unique found in
-    rw (← c.self.view_is, c.in_ok-copied.ensures) only
+    rw (← c.self.view_is, c.in_ok-try_clone.ensures) only

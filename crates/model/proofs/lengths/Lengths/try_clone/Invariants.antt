@@ -1,5 +1,5 @@
 use Rattle.std.proofs.Common.{◌≡◌, map, take}
-use Rattle.model.proofs.lengths.Lengths.again.Given as goal
+use Rattle.model.proofs.lengths.Lengths.try_clone.Given as goal
 
 abbrev pub invariant-loop-line : goal.invariant-loop-line
 invariant-loop-line l = map (λ v. v.items) l.lines.items ≡ map (λ v. v.items) (take l.line-index l.line-items)
