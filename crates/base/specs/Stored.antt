@@ -1,4 +1,4 @@
--- How a base shard stores its rows.
+-- How a base shard stores its rows. No public clause cites it.
 use Rattle.std.specs.Prelude.{◌≡◌, ℕ, ◌<◌, All, List, Option, Some, IfSome, slice_get}
 use Rattle.std.specs.HashMap.{HashMap, IsUnique, spare}
 use Rattle.row.specs.Cells.{Cells, datum_of}

@@ -41,13 +41,7 @@ impl Model for BaseShard {
 
     ghost Value = { Shard };
 
-    ghost view = { λ s. record {
-      key = s.key_column;
-      limit = s.limit;
-      rows = sorted row_cmp (values s.rows);
-      length = s.entry_count;
-      room = option_map datum_of s.ready;
-    } };
+    ghost view = { λ s. record { key = s.key_column; limit = s.limit; rows = sorted row_cmp (values s.rows); length = s.entry_count; room = option_map datum_of s.ready } };
 
     ghost invariant = { λ s. IsStored s.key_column s.rows s.ready };
 }
@@ -231,7 +225,7 @@ impl BaseShard {
         requires key { HasKey self.old.key (change_of entry) }
         requires lawful { refusal_of self.old (change_of entry) ≡ None }
         requires room { HasRoom self.old (change_of entry) }
-        ensures rest { self.new ≡ after_entry self.old (change_of entry) }
+        ensures shard { self.new ≡ after_entry self.old (change_of entry) }
         ensures front { (front : List Change) → IsAt self.old front
             → IsAt self.new (front ++ change_of entry ∷ []) }
     {

@@ -165,17 +165,6 @@ look_goes p n v log k i cs a kept pre lt =
       ),
     )
 
-pub look_moves : (p : Layout) (n : ℕ) (v : List Page) (k : ℕ) (i : Page) → IsLogOf p n v → k < base_count p + n
-    → Moves IsKept shown moved k (v, (no_nib, None)) (λ c. c) (Looks (step k 0 0 i) (v, (no_nib, None)))
-look_moves p n v k i a range cs log kept pre away =
-    let by = kept_by p n v log cs a kept pre in
-    let lt : k < length cs = omega (arith, by.width) in
-    let is = by.words k lt in (
-      lt,
-      ap (λ x. x.1) is,
-      subst (GoesAt v k (λ c. c) (Looks (step k 0 0 i) (v, (no_nib, None))) cs log) (sym is) (look_goes p n v log k i cs a by pre lt),
-    )
-
 -- ---- what holds of a result
 pub any_err : {A E P : Type 0} (r : Result A E) → P → OnErr r P
 any_err (Ok x) p = tt

@@ -24,7 +24,8 @@ impl Opening<Plan, LogPage> for First {
     ghost log = { λ count plan. opens plan (count - base_count plan) ∷ [] };
 }
 
-/// A word was found to have moved: others added an item to it, and nothing was added now.
+/// A word was found to have moved: it has more items than the caller had counted. (No clause says yet
+/// that none of them is the caller's own.)
 #[derive(Drop)]
 pub struct Moved;
 
@@ -45,11 +46,7 @@ impl Model for Opened {
 
     ghost Value = { OpenedView };
 
-    ghost view = { λ o. record {
-      book = o.seen.book;
-      plan = plan_on o.seen.log;
-      sessions = o.sessions;
-    } };
+    ghost view = { λ o. record { book = o.seen.book; plan = plan_on o.seen.log; sessions = o.sessions } };
 
     ghost invariant = { λ o. (map padded_value o.words.items
         ≡ words_of o.seen.book (o.bases + o.sessions)) × (o.bases ≡ base_count (plan_on o.seen.log))

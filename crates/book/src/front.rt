@@ -136,8 +136,8 @@ impl<J: Naming> Front<J> {
         look_at(book, self.base, &mut self.seen)
     }
 
-    /// Adds an entry at the end of the log. Errors: where the log has moved; then nothing was
-    /// added. Cost: one exchange of the base shard's word.
+    /// Adds an entry at the end of the log. Errors: where the log was seen to have moved; then the
+    /// front stays. Cost: one exchange of the base shard's word.
     pub fn append(
         &mut self,
         book: &Book<J>,

@@ -34,14 +34,7 @@ impl<J: Naming> Model for Written<J> {
 
     ghost Value = { WrittenView };
 
-    ghost view = { λ w. record {
-      session = w.session;
-      number = w.number;
-      base = w.base;
-      index = w.index;
-      entry = change_of w.entry;
-      seen = history_of w.seen.log;
-    } };
+    ghost view = { λ w. record { session = w.session; number = w.number; base = w.base; index = w.index; entry = change_of w.entry; seen = history_of w.seen.log } };
 
     ghost invariant = { λ w. (w.seen.book ≡ J.book) × IsLogOf J.plan J.sessions w.seen.log
         × IsWritten (record {

@@ -44,12 +44,7 @@ impl<J: Naming> Model for SessionWord<J> {
 
     ghost Value = { SessionView };
 
-    ghost view = { λ x. record {
-      session = x.number;
-      answered = x.answered;
-      floors = x.floors;
-      seen = history_of x.seen.log;
-    } };
+    ghost view = { λ x. record { session = x.number; answered = x.answered; floors = x.floors; seen = history_of x.seen.log } };
 
     ghost invariant = { λ x. (x.seen.book ≡ J.book) × IsLogOf J.plan J.sessions x.seen.log
         × IsSession J.plan J.sessions (record {
@@ -162,8 +157,8 @@ impl<J: Naming> SessionWord<J> {
         try_add::<J, X, M>(book, word, self.answered, &mut self.seen, asked)
     }
 
-    /// Answers a read over a cut. Errors: where the session's word has moved; then nothing was
-    /// answered. Cost: one exchange of the session's word.
+    /// Answers a read over a cut. Errors: where the session's word was seen to have moved; then its
+    /// floors and its count stay. Cost: one exchange of the session's word.
     pub fn answer(
         &mut self,
         book: &Book<J>,
@@ -204,8 +199,8 @@ impl<J: Naming> SessionWord<J> {
         Ok(())
     }
 
-    /// Ends a fence with a cut for each shard of each view. Errors: where the session's word has
-    /// moved; then the fence has not ended. Cost: one exchange of the session's word.
+    /// Ends a fence with a cut for each shard of each view. Errors: where the session's word was
+    /// seen to have moved; then its floors and its count stay. Cost: one exchange of its word.
     pub fn fence(&mut self, book: &Book<J>, own: &Vec<Place>, cuts: Cuts<J>) -> Result<(), Moved>
         requires floors { EachShard J.plan (λ v j. IsAtMost (floor_at self.old.floors v j)
             (floor_at cuts.floors v j)) }

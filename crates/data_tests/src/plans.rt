@@ -134,7 +134,7 @@ fn draft(alloc: Global, of: &PlanOf, told: Option<Aggregate>) -> Result<Draft, A
     })
 }
 
-/// The plan, with what is told of partners or of a group, if anything.
+/// The plan, with the aggregate of partners or of a group, if there is one.
 pub fn plan(alloc: Global, of: &PlanOf, told: Option<Aggregate>) -> Result<Plan, Fail> {
     Ok(Plan::check(draft(alloc, of, told)?).ok_or("no plan")?)
 }

@@ -344,7 +344,7 @@ fn change(
     Ok(())
 }
 
-/// The six stages, each with the third column as what is fits_64_bits.
+/// The six stages, each with the third column as what is summed.
 const STAGES: [Keyed; 6] = [
     (Shape::Rows, 0, 1),
     (Shape::Join, 0, 1),

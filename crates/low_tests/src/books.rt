@@ -56,7 +56,10 @@ fn run<J: Naming>(
     let (book, front) = opened.named::<J>(0);
     match scene {
         Scene::Append => appends_once(alloc, &book, &front),
-        Scene::Answer | Scene::Fence => adds_once(alloc, plan, &book, &front, scene),
+        Scene::Answer | Scene::Fence => {
+            let one = adds(alloc, plan, &book, &front, scene)?;
+            Ok(one && !adds(alloc, plan, &book, &front, scene)?)
+        }
         Scene::Zeros => has_zeros(alloc, plan, &front),
     }
 }
@@ -129,20 +132,6 @@ fn adds<J: Naming>(
         let answered = word.answer(book, 0, 0, &Value::Int(7), &Vec::new(alloc), cut);
         Ok(answered.is_ok())
     }
-}
-
-fn adds_once<J: Naming>(
-    alloc: Global,
-    plan: &Plan,
-    book: &Book<J>,
-    front: &Front<J>,
-    scene: Scene,
-) -> Result<bool, AllocError>
-    requires plan { (plan.now ≡ J.plan) × (J.plan ≡ notes_plan) }
-    requires sessions { J.sessions ≡ 1 }
-    requires front { (front.now.base ≡ 0) × (front.now.len ≡ 0) }
-{
-    Ok(adds(alloc, plan, book, front, scene)? && !adds(alloc, plan, book, front, scene)?)
 }
 
 fn is_printed(alloc: Global, lengths: &Lengths, text: &str) -> Result<bool, AllocError> {

@@ -120,9 +120,9 @@ fn take(alloc: Global, bag: &mut Bag, cells: &[Cell]) -> Result<bool, AllocError
 }
 
 /// Whether these are the rows, with `;` behind each.
-fn has_rows(alloc: Global, bag: &Bag, text: &str) -> Result<bool, AllocError> {
+fn are_rows(alloc: Global, rows: &[Row], text: &str) -> Result<bool, AllocError> {
     let mut all = String::new(alloc);
-    for row in bag.rows() {
+    for row in rows {
         all.push_str(row.to_string(alloc)?.as_str())?;
         all.push(';')?;
     }
@@ -131,10 +131,10 @@ fn has_rows(alloc: Global, bag: &Bag, text: &str) -> Result<bool, AllocError> {
 
 fn keeps_repeats(alloc: Global, bag: &mut Bag) -> Result<bool, AllocError> {
     Ok(
-        has_rows(alloc, bag, "1 7;2 0;2 0;")?
+        are_rows(alloc, bag.rows(), "1 7;2 0;2 0;")?
             && take(alloc, bag, &[Int(2), Int(0)])?
             && !take(alloc, bag, &[Int(1), Int(8)])?
-            && has_rows(alloc, bag, "1 7;2 0;")?,
+            && are_rows(alloc, bag.rows(), "1 7;2 0;")?,
     )
 }
 
@@ -160,11 +160,11 @@ fn a_record_is_copied_whole(rt: HostRuntime) -> Result<(), Fail> {
     Ok(())
 }
 
-/// A record of a row that has 7 in its second column.
-fn signed(alloc: Global, id: i128, sign: Sign) -> Result<Record, AllocError>
-    ensures { IfOk result (λ r. r ≡ record { row = int id ∷ int (pos 7) ∷ []; sign = sign }) }
+/// A record of a row of these two numbers.
+fn signed(alloc: Global, id: i128, author: i128, sign: Sign) -> Result<Record, AllocError>
+    ensures { IfOk result (λ r. r ≡ record { row = int id ∷ int author ∷ []; sign = sign }) }
 {
-    let row = Row::new(vec![in alloc; Value::Int(id), Value::Int(7)]?);
+    let row = Row::new(vec![in alloc; Value::Int(id), Value::Int(author)]?);
     Ok(Record { row, sign })
 }
 
@@ -172,17 +172,18 @@ fn signed(alloc: Global, id: i128, sign: Sign) -> Result<Record, AllocError>
 fn exchange(alloc: Global) -> Result<Vec<Record>, AllocError>
     ensures { IfOk result (λ v. (rows : List Cells) → IsCovered rows (wide 1 v.items)) }
 {
-    let taken = signed(alloc, 2, Sign::Minus)?;
-    let given = signed(alloc, 2, Sign::Plus)?;
+    let taken = signed(alloc, 2, 7, Sign::Minus)?;
+    let given = signed(alloc, 2, 7, Sign::Plus)?;
     Ok(vec![in alloc; taken, given]?)
 }
 
-/// Adds two rows, and exchanges one.
+/// Adds three rows, and exchanges one.
 fn fill(found: &mut Grouped, alloc: Global) -> Result<(), AllocError>
     requires { found.old.column ≡ 1 }
 {
-    found.add(alloc, &signed(alloc, 1, Sign::Plus)?.row)?;
-    found.add(alloc, &signed(alloc, 2, Sign::Plus)?.row)?;
+    found.add(alloc, &signed(alloc, 2, 7, Sign::Plus)?.row)?;
+    found.add(alloc, &signed(alloc, 1, 7, Sign::Plus)?.row)?;
+    found.add(alloc, &signed(alloc, 3, 8, Sign::Plus)?.row)?;
     found.apply(alloc, exchange(alloc)?.as_slice())
 }
 
@@ -190,7 +191,8 @@ fn fill(found: &mut Grouped, alloc: Global) -> Result<(), AllocError>
 fn rows_are_found_by_a_column(rt: HostRuntime) -> Result<(), Fail> {
     let mut found = Grouped::new(rt.alloc(), 1);
     fill(&mut found, rt.alloc())?;
-    assert!(rt; found.rows_of(&Value::Int(7)).len() == 2);
-    assert!(rt; found.rows_of(&Value::Int(1)).is_empty());
+    assert!(rt; are_rows(rt.alloc(), found.rows_of(&Value::Int(7)), "1 7;2 7;")?);
+    assert!(rt; are_rows(rt.alloc(), found.rows_of(&Value::Int(8)), "3 8;")?);
+    assert!(rt; found.rows_of(&Value::Int(9)).is_empty());
     Ok(())
 }

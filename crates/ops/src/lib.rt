@@ -1,5 +1,5 @@
 //! What the stage of a plan makes of the rows of its sides: all of it at once, and step by step
-//! as the rows change. Nothing here waits, and nothing fails but for want of memory.
+//! as the rows change. Nothing here waits, and nothing fails unless memory is refused.
 #![tactic(auto)]
 
 pub mod difference;

@@ -9,8 +9,8 @@ use crate::stage::Side;
 use crate::table::{Table, is_from};
 use std::marker::Model;
 
-/// The parts of a plan: the tables, the shards of the stage, its sides, what is told of a group,
-/// how many filled keys a stage shard keeps, the views.
+/// The parts of a plan: the tables, the shards of the stage, its sides, the aggregate, how many
+/// filled keys a stage shard keeps, the views.
 #[derive(Drop)]
 pub struct Draft {
     pub tables: Vec<Table>,
@@ -27,15 +27,7 @@ impl Model for Draft {
 
     ghost Value = { Layout };
 
-    ghost view = { λ d. record {
-      tables = d.tables.items;
-      stages = d.stages;
-      left = d.left;
-      right = d.right;
-      aggregate = d.aggregate;
-      cap = d.cap;
-      views = d.views.items;
-    } };
+    ghost view = { λ d. record { tables = d.tables.items; stages = d.stages; left = d.left; right = d.right; aggregate = d.aggregate; cap = d.cap; views = d.views.items } };
 }
 
 impl Draft {

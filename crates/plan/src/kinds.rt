@@ -69,7 +69,7 @@ impl Op {
     }
 }
 
-/// What is told of a group of rows: their number, or the sum of a column of theirs.
+/// An aggregate of rows: their number, or the sum of a column of theirs.
 #[derive(Clone, Copy, PartialEq, Eq, Debug)]
 pub enum Aggregate {
     Count,

@@ -30,12 +30,7 @@ impl Model for ViewPlan {
 
     ghost Value = { ViewLayout };
 
-    ghost view = { λ v. record {
-      name = string_bytes v.name;
-      key = v.key;
-      shards = v.shards;
-      cap = v.cap;
-    } };
+    ghost view = { λ v. record { name = string_bytes v.name; key = v.key; shards = v.shards; cap = v.cap } };
 }
 
 impl ViewPlan {
@@ -100,25 +95,9 @@ impl Model for Plan {
 
     ghost Value = { Layout };
 
-    ghost view = { λ p. record {
-      tables = p.tables.items;
-      stages = p.stages;
-      left = p.left;
-      right = p.right;
-      aggregate = p.aggregate;
-      cap = p.cap;
-      views = p.views.items;
-    } };
+    ghost view = { λ p. record { tables = p.tables.items; stages = p.stages; left = p.left; right = p.right; aggregate = p.aggregate; cap = p.cap; views = p.views.items } };
 
-    ghost invariant = { λ p. IsPlan (record {
-      tables = p.tables.items;
-      stages = p.stages;
-      left = p.left;
-      right = p.right;
-      aggregate = p.aggregate;
-      cap = p.cap;
-      views = p.views.items;
-    }) };
+    ghost invariant = { λ p. IsPlan (record { tables = p.tables.items; stages = p.stages; left = p.left; right = p.right; aggregate = p.aggregate; cap = p.cap; views = p.views.items }) };
 }
 
 impl Plan {
@@ -269,7 +248,7 @@ impl Plan {
         self.right.as_ref()
     }
 
-    /// What is told of partners or of a group, if anything.
+    /// The aggregate of partners or of a group, if there is one.
     pub fn aggregate(&self) -> Option<Aggregate>
         ensures { result ≡ self.now.aggregate }
     {

@@ -39,7 +39,7 @@ abbrev pub is_one_of : List (List ℕ) → List ℕ → Bool
 is_one_of [] name = false
 is_one_of (x ∷ xs) name = bytes_eq name x || is_one_of xs name
 
--- the name of a member is
+-- the name of a member is one of these
 abbrev pub is_field : List (List ℕ) → String Global → Bool
 is_field names k = is_one_of names (string_bytes k)
 

@@ -4,7 +4,7 @@ ghost use Rattle.recipe.specs.Words.{kind_of, op_of, word_of};
 
 use plan::kinds::{Kind, Op};
 
-/// The word for what is told of a group, before its column is known.
+/// The word for an aggregate, before its column is known.
 #[derive(Clone, Copy, PartialEq, Eq, Debug)]
 pub enum Word {
     Count,

@@ -25,13 +25,7 @@ impl<J: Naming> Model for Delta<J> {
 
     ghost Value = { DeltaView };
 
-    ghost view = { λ d. record {
-      view = d.view;
-      shard = d.shard;
-      before = d.before;
-      after = d.after;
-      asked = d.asked;
-    } };
+    ghost view = { λ d. record { view = d.view; shard = d.shard; before = d.before; after = d.after; asked = d.asked } };
 
     ghost invariant = { λ d. IsDelta J.plan d.view d.shard d.before d.after d.changes.items };
 }

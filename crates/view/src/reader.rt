@@ -86,8 +86,8 @@ impl<J: Naming> ShownReader<J> {
     }
 
     /// Looks a key of its shard up in what is shown, which is no less than what it has seen. It
-    /// waits for nobody. Refused with `NoMemory` for want of memory, or where the writer is gone;
-    /// it may then have seen more. Cost: one look-up, and copies of the rows and of the cut.
+    /// waits for nobody. Errors: `NoMemory`, also where the writer is gone; it may then have seen
+    /// more. Cost: one look-up, and copies of the rows and of the cut.
     pub fn look(&mut self, alloc: Global, key: &Value) -> Result<Look<J>, Refused>
         requires shard { view_shard J.plan self.old.view (datum_of key.now) ≡ self.old.shard }
         ensures later { IsLater self.old self.new }
@@ -103,8 +103,7 @@ impl<J: Naming> ShownReader<J> {
     }
 
     /// Looks at the cut of what is shown, which is no less than what it has seen. It waits for
-    /// nobody. Refused with `NoMemory` for want of memory, or where the writer is gone; it may
-    /// then have seen more.
+    /// nobody. Errors: `NoMemory`, also where the writer is gone; it may then have seen more.
     pub fn cut(&mut self, alloc: Global) -> Result<Cut<J>, Refused>
         ensures later { IsLater self.old self.new }
         ensures cut { IfOk result (λ c. c ≡ self.new.cut) }

@@ -15,12 +15,7 @@ impl Model for Shot {
 
     ghost Value = { Snapshot };
 
-    ghost view = { λ _. record {
-      view = 0;
-      shard = 0;
-      cut = record { lengths = []; seen = [] };
-      asked = 0;
-    } };
+    ghost view = { λ _. record { view = 0; shard = 0; cut = record { lengths = []; seen = [] }; asked = 0 } };
 }
 
 /// What a reader or the writer has seen: nothing, or a snapshot. It exists in proofs alone.

@@ -51,7 +51,7 @@ invariant_of-self-in-Ok-write g c =
     let f = c.self.inside.front in
     let appended = rw c.again-front.ensures at c.in-Ok-write.ensures.accepted.appended in
     let at : IsAt c.commit.new.self (entries f ++ change_of c.write.inside.entry ∷ []) = subst (λ (x : Change). IsAt c.commit.new.self (entries f ++ x ∷ [])) e.kept (c.commit.ensures.front (entries f) (e.front (entries f) c.self.invariant.at)) in
-    domain_next g.J.Naming.plan c.self.inside.shard c.commit.new.self f c.write-2.new.self c.self.inside.next.items c.write.inside.session c.write.inside.number (change_of c.write.inside.entry) c.self.invariant appended at (ap (λ (s : Shard). s.key) c.commit.ensures.rest ∙ ap (λ (s : Shard). s.key) e.rest) (ap (λ (s : Shard). s.limit) c.commit.ensures.rest ∙ ap (λ (s : Shard). s.limit) e.rest) place rises
+    domain_next g.J.Naming.plan c.self.inside.shard c.commit.new.self f c.write-2.new.self c.self.inside.next.items c.write.inside.session c.write.inside.number (change_of c.write.inside.entry) c.self.invariant appended at (ap (λ (s : Shard). s.key) c.commit.ensures.shard ∙ ap (λ (s : Shard). s.key) e.rest) (ap (λ (s : Shard). s.limit) c.commit.ensures.shard ∙ ap (λ (s : Shard). s.limit) e.rest) place rises
 
 pub returns-in-Ok-write-clause-sent : goal.returns-in-Ok-write-clause-sent
 returns-in-Ok-write-clause-sent g c =
