@@ -31,6 +31,17 @@ fn looks_between_publications(rt: HostRuntime) -> Result<(), Fail> {
     run(rt, rt.alloc(), 1, Scene::Looks)
 }
 
+// One more, or one less, of a note of author 7.
+fn change(alloc: Global, id: i128, sign: Sign) -> Result<Record, AllocError>
+    ensures { IfOk result (λ r. r ≡ record {
+      row = int id ∷ int (pos 7) ∷ text (codes "a") ∷ [];
+      sign = sign;
+    }) }
+{
+    let row = note(alloc, id, 7)?;
+    Ok(Record { row, sign })
+}
+
 // Looks before, between and after a change was appended and published.
 pub fn looks<J: Naming, R: Wait + Drop>(
     rt: R,
