@@ -51,6 +51,10 @@ rows_with s e = changed s.key s.rows e
 abbrev pub rows_after : Shard → Change → List Cells
 rows_after s e = sorted row_cmp (rows_with s e)
 
+-- the shard with these rows, and all else as it was
+abbrev pub rows_changed : Shard → Change → Shard
+rows_changed s e = record s { rows = rows_after s e }
+
 -- the shard after the entry
 abbrev pub after_entry : Shard → Change → Shard
 after_entry s e = record s { rows = rows_after s e; length = s.length + 1; room = room_after s.room e }

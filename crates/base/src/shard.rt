@@ -7,7 +7,7 @@ ghost use Rattle.row.specs.Changes.{Turns};
 ghost use Rattle.model.specs.Logs.{Change, inserts, deletes, updates, is_held, key_of, rows_of};
 ghost use Rattle.model.specs.Refusals.{full, refusal};
 ghost use Rattle.model.specs.Entries.{change_of};
-ghost use Rattle.base.specs.Shards.{Shard, IsAt, HasKey, HasRoom, adds_row, room_after, rows_with, rows_after, after_entry, refusal_of, verdict};
+ghost use Rattle.base.specs.Shards.{Shard, IsAt, HasKey, HasRoom, adds_row, room_after, rows_with, rows_after, rows_changed, after_entry, refusal_of, verdict};
 ghost use Rattle.base.specs.Records.{plus_of, minus_of, records_of, records_at, record_count};
 ghost use Rattle.row.specs.Groups.{equal};
 
@@ -264,7 +264,7 @@ impl BaseShard {
         requires key { self.old.key < length row }
         requires room { self.old.room ≡ Some (cell_at row self.old.key) }
         requires absent { is_held self.old.key self.old.rows (cell_at row self.old.key) ≡ false }
-        ensures { self.new ≡ record self.old { rows = rows_after self.old (inserts row); room = None } }
+        ensures { self.new ≡ record (rows_changed self.old (inserts row)) { room = None } }
     {
         if let Some(key) = self.ready.take() {
             put(&mut self.rows, key, row);
@@ -273,7 +273,7 @@ impl BaseShard {
 
     /// Takes the row of the key away.
     fn remove(&mut self, key: &Value)
-        ensures { self.new ≡ record self.old { rows = rows_after self.old (deletes (datum_of key.now)) } }
+        ensures { self.new ≡ rows_changed self.old (deletes (datum_of key.now)) }
     {
         let _ = self.rows.remove(key);
     }
@@ -282,7 +282,7 @@ impl BaseShard {
     fn replace(&mut self, row: Row)
         requires key { self.old.key < length row }
         requires held { is_held self.old.key self.old.rows (cell_at row self.old.key) ≡ true }
-        ensures { self.new ≡ record self.old { rows = rows_after self.old (updates row) } }
+        ensures { self.new ≡ rows_changed self.old (updates row) }
     {
         let place = self.rows.get_mut(row.cell(self.key_column)).unwrap();
         *place = row;

@@ -105,7 +105,8 @@ impl<J: Naming> Model for Bases<J> {
     // Whether the first has stopped.
     ghost view = { λ b. b.first.stopped };
 
-    ghost invariant = { λ b. (J.plan ≡ notes_plan) × (b.first.front.base ≡ 0) × (b.other.front.base ≡ 0) };
+    ghost invariant = { λ b. (J.plan ≡ notes_plan) × (b.first.front.base ≡ 0)
+        × (b.other.front.base ≡ 0) };
 }
 
 fn begun<J: Naming>(alloc: Global, plan: &Plan, part: &Part<J>) -> Result<Bases<J>, AllocError>

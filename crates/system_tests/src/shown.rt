@@ -82,7 +82,8 @@ fn first_delta<J: Naming>(
 fn delta_to<J: Naming>(alloc: Global, plan: &Plan, front: &Front<J>) -> Result<Delta<J>, AllocError>
     requires plan { (plan.now ≡ J.plan) × (J.plan ≡ notes_plan) }
     requires base { front.now.base ≡ 0 }
-    requires entries { entries front.now ≡ inserts (int (pos 1) ∷ int (pos 7) ∷ text (codes "a") ∷ []) ∷ [] }
+    requires entries { entries front.now ≡ inserts
+        (int (pos 1) ∷ int (pos 7) ∷ text (codes "a") ∷ []) ∷ [] }
     ensures of { IfOk result (λ d. (d.view ≡ 0) × (d.shard ≡ 0)) }
     ensures before { IfOk result (λ d. d.before.lengths ≡ zero_lengths J.plan) }
 {
@@ -103,7 +104,8 @@ fn show<J: Naming, R: Wait + Drop>(
     requires of { ((shown writer.old).view ≡ 0) × ((shown writer.old).shard ≡ 0) }
     requires zeros { (shown writer.old).cut.lengths ≡ zero_lengths J.plan }
     requires pending { pending writer.old ≡ [] }
-    requires delta { (delta.view ≡ 0) × (delta.shard ≡ 0) × (delta.before.lengths ≡ zero_lengths J.plan) }
+    requires delta { (delta.view ≡ 0) × (delta.shard ≡ 0)
+        × (delta.before.lengths ≡ zero_lengths J.plan) }
 {
     let mut reader = writer.reader()?;
     find(&mut reader, alloc, &[], 0)?;
