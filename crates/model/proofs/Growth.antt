@@ -1,5 +1,6 @@
 -- A history that goes on: what it named, allowed and had stays.
-use Rattle.std.proofs.Common.{◌≡◌, ℕ, zero, suc, ◌≤◌, List, [], ◌∷◌, ◌++◌, length, slice_index_or, slice_get, Some, refl, sym, ◌∙◌, subst, arith, append_assoc, append-nil, length-append, ◌==◌, true, false}
+use mathlib.Core.List.{IsPrefix}
+use Rattle.std.proofs.Common.{ap, ◌≡◌, ℕ, zero, suc, ◌≤◌, List, [], ◌∷◌, ◌++◌, length, slice_index_or, slice_get, Some, refl, sym, ◌∙◌, subst, arith, append_assoc, append-nil, length-append, ◌==◌, true, false}
 use Rattle.std.proofs.lemmas.List.Concat.{flat_map-append}
 use Rattle.std.proofs.lemmas.List.{take-append-le}
 use Rattle.plan.specs.Layouts.{Layout}
@@ -80,3 +81,10 @@ legal_more p n past (x ∷ h) i legal a = (legal.0, legal_more p n (past ++ x �
 pub legal_before : (p : Layout) (n : ℕ) (past h r : List Item) → IsLegalAfter p n past (h ++ r) → IsLegalAfter p n past h
 legal_before p n past [] r legal = tt
 legal_before p n past (x ∷ h) r legal = (legal.0, legal_before p n (past ++ x ∷ []) h r legal.1)
+
+-- ---- logs of a longer history are longer
+pub log_grows : (b : ℕ) (h w : List Item) → IsPrefix h w → IsPrefix (log_of b h) (log_of b w)
+log_grows b h w p = (log_of b p.0, sym (ap (log_of b) (sym p.1) ∙ flat_map-append (entry_in b) h p.0))
+
+pub authors_grow : (b : ℕ) (h w : List Item) → IsPrefix h w → IsPrefix (authors_of b h) (authors_of b w)
+authors_grow b h w p = (authors_of b p.0, sym (ap (authors_of b) (sym p.1) ∙ flat_map-append (author_in b) h p.0))

@@ -8,8 +8,9 @@ use Rattle.plan.specs.Recipes.{notes_plan, notes_sharded, view}
 use Rattle.model.specs.Logs.{Change, inserts, deletes, updates, rows_of, is_held, lawful}
 use Rattle.model.specs.Refusals.{refusal, full}
 use Rattle.model.specs.Places.{source_at}
-use Rattle.model.specs.Histories.{Item, write, read, fence, Lengths, Floors, Place, Author, len_at, log_of}
-use Rattle.model.specs.Cuts.{IsAtMost, IsWithin}
+use Rattle.model.specs.Histories.{Item, write, read, fence, Lengths, Floors, Place, Author, len_at, log_of, floor_of}
+use Rattle.model.specs.Cuts.{IsAtMost, IsWithin, fronts_of}
+use Rattle.model.specs.Queries.{answer}
 use Rattle.model.specs.Legal.{limit, IsPast, EachShard, Allows, IsLegal}
 use Rattle.model.proofs.Samples.{n}
 use Rattle.model.proofs.Growth.{at_most_none}
@@ -124,15 +125,13 @@ not_again a = let f : 0 < 0 = a.number.0 refl in absurd (omega arith)
 pub not_missed : Allows notes_plan 1 after_write (fence 0 (first_place ∷ []) (floored 0)) → ⊥
 not_missed a = let f : 0 < 0 = (a.past 0 0 (let r : 0 < 1 = omega arith in r) (let r : 0 < 1 = omega arith in r)).0 0 0 (omega arith) (let r : 0 < 1 = omega arith in r) refl in absurd (omega arith)
 
+-- a read at the empty cut, by a session that has no floor yet
+unread : (h : List Item) (s : ℕ) → s < 2 → IsAtMost (floor_of notes_plan s 0 0 h) (upto 0) → [] ≡ answer notes_plan (fronts_of notes_plan h (upto 0)) 0 (n 7) → Allows notes_plan 2 h (read s 0 (n 7) [] (upto 0))
+unread h s small floor answers = record { session = small; view = (let r : 0 < 1 = omega arith in r); within = upto_within 0 h (omega arith); floor = floor; answers = answers }
+
 -- another session has no floor yet
 pub other_session : Allows notes_plan 2 after_fence (read 1 0 (n 7) [] (upto 0))
-other_session = record {
-  session = omega arith;
-  view = (let r : 0 < 1 = omega arith in r);
-  within = upto_within 0 after_fence (omega arith);
-  floor = at_most_none (upto 0);
-  answers = refl;
-}
+other_session = unread after_fence 1 (omega arith) (at_most_none (upto 0)) refl
 
 -- a write that does not fit its table
 pub not_fitting : Allows notes_plan 1 after_fence (write 0 1 0 (inserts (n 2 ∷ []))) → ⊥
@@ -219,13 +218,7 @@ abbrev pub read_by_other : List Item
 read_by_other = first_write ∷ read 1 0 (n 7) (note ∷ []) (upto 1) ∷ []
 
 pub other_reader : Allows notes_plan 2 read_by_other (read 0 0 (n 7) [] (upto 0))
-other_reader = record {
-  session = omega arith;
-  view = (let r : 0 < 1 = omega arith in r);
-  within = upto_within 0 read_by_other (omega arith);
-  floor = at_most_none (upto 0);
-  answers = refl;
-}
+other_reader = unread read_by_other 0 (omega arith) (at_most_none (upto 0)) refl
 
 -- a fence whose second floor misses an own write, or is past the log
 abbrev pub notes_halves : Layout

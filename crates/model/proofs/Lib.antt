@@ -1,6 +1,8 @@
 pub mod Lists
 pub mod LogLaws
 pub mod Growth
+pub mod LegalLogs
+pub mod Beginnings
 pub mod Prefixes
 pub mod PlaceLaws
 pub mod Sources

@@ -1,5 +1,5 @@
 -- More answers: a group that is counted, a second view, stage shards at different cuts.
-use Rattle.std.proofs.Common.{◌≡◌, ℕ, Bool, true, false, List, [], ◌∷◌, ◌++◌, refl, codes, Some}
+use Rattle.std.proofs.Common.{◌≡◌, ℕ, Bool, true, false, List, [], ◌∷◌, ◌++◌, map, refl, codes, Some}
 use Rattle.row.specs.Cells.{text}
 use Rattle.plan.specs.Layouts.{Layout}
 use Rattle.plan.specs.Outputs.{pass}
@@ -56,20 +56,5 @@ light = refl
 abbrev pub passes : Op → List Bool
 passes o = pass (record { column = 0; op = o; value = n 5 } ∷ []) (n 4 ∷ []) ∷ pass (record { column = 0; op = o; value = n 5 } ∷ []) (n 5 ∷ []) ∷ pass (record { column = 0; op = o; value = n 5 } ∷ []) (n 6 ∷ []) ∷ []
 
-pub equal : passes op.Equal ≡ false ∷ true ∷ false ∷ []
-equal = refl
-
-pub not_equal : passes op.NotEqual ≡ true ∷ false ∷ true ∷ []
-not_equal = refl
-
-pub less : passes op.Less ≡ true ∷ false ∷ false ∷ []
-less = refl
-
-pub at_most : passes op.AtMost ≡ true ∷ true ∷ false ∷ []
-at_most = refl
-
-pub greater : passes op.Greater ≡ false ∷ false ∷ true ∷ []
-greater = refl
-
-pub at_least : passes op.AtLeast ≡ false ∷ true ∷ true ∷ []
-at_least = refl
+pub operators : map passes (op.Equal ∷ op.NotEqual ∷ op.Less ∷ op.AtMost ∷ op.Greater ∷ op.AtLeast ∷ []) ≡ (false ∷ true ∷ false ∷ []) ∷ (true ∷ false ∷ true ∷ []) ∷ (true ∷ false ∷ false ∷ []) ∷ (true ∷ true ∷ false ∷ []) ∷ (false ∷ false ∷ true ∷ []) ∷ (false ∷ true ∷ true ∷ []) ∷ []
+operators = refl

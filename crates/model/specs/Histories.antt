@@ -1,6 +1,5 @@
 -- Histories: their items, the logs of the base shards, the floors of the sessions.
 use Rattle.std.specs.Prelude.{ℕ, ◌==◌, cond, ◌&&◌, List, [], ◌∷◌, flat_map, slice_index_or}
-use mathlib.Core.List.{IsPrefix}
 use Rattle.row.specs.Cells.{Datum, Cells, shard}
 use Rattle.plan.specs.Layouts.{Layout, view_at}
 use Rattle.model.specs.Logs.{Change}
@@ -75,7 +74,3 @@ last_or d (x ∷ xs) = last_or x xs
 -- the last of them, and all zeros before ([] has length 0 everywhere)
 abbrev pub floor_of : Layout → ℕ → ℕ → ℕ → List Item → Lengths
 floor_of p me i j h = last_or [] (flat_map (floor_in p me i j) h)
-
--- what a caller has seen is a beginning of the history
-abbrev pub HasSeen : List Item → List Item → Type 0
-HasSeen seen h = IsPrefix seen h

@@ -9,3 +9,6 @@ pub mod Tables
 pub mod Items
 pub mod Refusals
 pub mod Legal
+pub mod Fronts
+pub mod Steps
+pub mod Lists

@@ -5,7 +5,9 @@
 mod display;
 pub mod entry;
 pub mod floors;
+pub mod fronts;
 pub mod item;
 pub mod lengths;
+pub mod list;
 pub mod place;
 pub mod places;
