@@ -56,6 +56,7 @@ appended p v w b len s m e f (is, a) =
       stays = refl;
       entries = take_more_all (log_of b (history_of v)) (log_of b (history_of w)) e len (sym l) (entries_added p b s m e (history_of v) (history_of w) a);
       authors = take_more_all (authors_of b (history_of v)) (authors_of b (history_of w)) (record { session = s; number = m }) len (sym (length_authors b (history_of v) ∙ l)) (authors_added p b s m e (history_of v) (history_of w) a);
+      whole = let g = entries_added p b s m e (history_of v) (history_of w) a in rw g (omega (arith, length-append (log_of b (history_of v)) (e ∷ []), l));
     }
 
 pub appended_front : (p : Layout) (v w : List Page) (b len s m : ℕ) (e : Change) → IsFront p (front_at b len v) → (count_at p b (history_of v) ≡ len) × IsAdded p b (history_of v) (write s m b e) (history_of w) → IsFront p (front_at b (len + 1) w)

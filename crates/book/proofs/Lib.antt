@@ -3,7 +3,9 @@ pub mod Later
 pub mod Steps
 pub mod Words
 pub mod Fronts
+pub mod FrontLogs
 pub mod Replies
+pub mod Rights
 pub mod Sessions
 pub mod Advances
 pub mod Lines

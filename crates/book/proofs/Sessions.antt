@@ -133,6 +133,13 @@ read_done p n v w s a floors k key rows cut x lt jt (here, ad) = record {
   floors = λ is u i lu li. read_floor p s k u i key rows cut floors (history_of v) (history_of w) x.table lt jt ad (x.floors here u i lu li) (eqb_tells k u) (eqb_tells (shard key (view_at p k).shards) i);
 }
 
+-- the shorter part has as many items of the word, if the longer one has no more than it was known to have
+counted_before : (p : Layout) (k a : ℕ) (o v : List Page) → IsPrefix o v → a ≤ count_at p k (history_of o) → count_at p k (history_of v) ≡ a → count_at p k (history_of o) ≡ a
+counted_before p k a o v pre least here =
+    let r = rest_of o v pre in
+    let all : count_at p k (history_of v) ≡ count_at p k (history_of o) + count_at p k r.0 = ap (count_at p k) r.1 ∙ count_append p k (history_of o) r.0 in
+    omega (arith, all, here, least)
+
 -- what was asked for of a longer part was added to the shorter one too
 pub added_before : (p : Layout) (k a : ℕ) (o v w : List Page) (i : Item) → IsPrefix o v → a ≤ count_at p k (history_of o) → (count_at p k (history_of v) ≡ a) × IsAdded p k (history_of v) i (history_of w) → IsAdded p k (history_of o) i (history_of w)
 added_before p k a o v w i pre least (here, ad) =
@@ -177,6 +184,7 @@ stolen_before p o v s a floors y pre t = record { stays = t.stays; grown = prefi
 pub answered : (p : Layout) (n : ℕ) (o v w : List Page) (s a : ℕ) (floors after : Floors) (i : Item) → IsSession p n (session_at s a floors o) → IsPrefix o v
     → (count_at p (own_word p s) (history_of v) ≡ a) × IsAdded p (own_word p s) (history_of v) i (history_of w) → IsAnswered p (session_at s a floors o) i after (session_at s (a + 1) after w)
 answered p n o v w s a floors after i x pre told = record {
+  counted = counted_before p (own_word p s) a o v pre x.least told.0;
   item = added_before p (own_word p s) a o v w i pre x.least told;
   stays = refl;
 }

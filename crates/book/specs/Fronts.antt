@@ -41,12 +41,13 @@ pub record MayAppend (p : Layout) (f : FrontView) (s m : ℕ) (e : Change) : Typ
   pub room : f.len < limit
   pub number : Each (λ (a : Author). a.session ≡ s → a.number < m) (authors f)
 
--- one more entry, by an item that stands at the end of what was then seen
+-- one more entry, by an item that stands at the end of what was then seen, so that the front has all of its log
 pub record IsAppended (p : Layout) (f : FrontView) (s m : ℕ) (e : Change) (g : FrontView) : Type 0 where
   pub item : IsAdded p f.base f.seen (write s m f.base e) g.seen
   pub stays : g ≡ record f { len = f.len + 1; seen = g.seen }
   pub entries : entries g ≡ entries f ++ e ∷ []
   pub authors : authors g ≡ authors f ++ record { session = s; number = m } ∷ []
+  pub whole : g.len ≡ length (log_of g.base g.seen)
 
 -- the front is as it was, and its log was seen to be longer
 pub record IsMoved (f g : FrontView) : Type 0 where

@@ -57,8 +57,9 @@ IsOwnAsk p n x ask = IsAsk p n (own_word p x.session) x.answered x.seen ask
 abbrev pub IsOwnDone : Layout → SessionView → Page → List Item → Type 0
 IsOwnDone p x ask h = IsDone p (own_word p x.session) x.answered ask x.seen h
 
--- one more answer, by an item that stands at the end of what was then seen
+-- one more answer, by an item that stands at the end of what was then seen; of the items of its word only its answers were there before
 pub record IsAnswered (p : Layout) (x : SessionView) (i : Item) (floors : Floors) (y : SessionView) : Type 0 where
+  pub counted : own_items p x.session x.seen ≡ x.answered
   pub item : IsAdded p (own_word p x.session) x.seen i y.seen
   pub stays : y ≡ record x { answered = x.answered + 1; floors = floors; seen = y.seen }
 

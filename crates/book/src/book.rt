@@ -1,11 +1,14 @@
 //! A book whose history stands in words that all threads share.
-ghost use Rattle.std.specs.Prelude.{◌≡◌, ◌+◌, ◌<◌, ◌≤◌, [], IfOk, map, slice_index_or};
+ghost use Rattle.std.specs.Prelude.{◌≡◌, ◌+◌, ◌<◌, ◌≤◌, [], ◌∷◌, IfOk, length, map, slice_index_or};
 ghost use Rattle.crossbeam_utils.specs.Padded.{padded_value};
-ghost use Rattle.book.specs.Pages.{words_of, word_named};
+ghost use Rattle.book.specs.Pages.{opens, words_of, word_named};
+ghost use Rattle.book.specs.Rights.{empty_fronts, AreFresh};
 ghost use Rattle.model.specs.Places.{base_count};
 
-use crate::front::Front;
 use crate::law::{Law, LogPage, Naming};
+use crate::log::Log;
+use crate::part::Part;
+use crate::session::SessionWord;
 use crossbeam_utils::CachePadded;
 use logbook::{Opening, Pens, Seen, Start, Word};
 use model::places::base_count;
@@ -78,6 +81,20 @@ impl<J: Naming> Model for Book<J> {
         × (b.bases + b.sessions < 100) × (b.sessions ≡ J.sessions) };
 }
 
+/// What a book hands out, once: itself, which all share; what was seen at its start; the right to
+/// append to the log of each base shard; and the word of each session.
+#[derive(Drop)]
+pub struct Rights<J: Naming> {
+    /// The book.
+    pub book: Book<J>,
+    /// What was seen at its start: nothing.
+    pub start: Part<J>,
+    /// The log of each base shard, in order.
+    pub logs: Vec<Log<J>>,
+    /// The word of each session, in order.
+    pub words: Vec<SessionWord<J>>,
+}
+
 impl Opened {
     /// A book of this plan for so many sessions, at most 16. Errors: memory only.
     pub fn new(alloc: Global, plan: &Plan, sessions: usize) -> Result<Opened, AllocError>
@@ -96,13 +113,16 @@ impl Opened {
         })
     }
 
-    /// The book under a name, and a front of a base shard that has seen nothing.
-    pub fn named<J: Naming>(self, base: usize) -> (Book<J>, Front<J>)
+    /// The book under a name, with the log of each base shard and the word of each session. There
+    /// are no others: this is the one place that makes them. Errors: memory only.
+    pub fn named<J: Naming>(self, alloc: Global, plan: &Plan) -> Result<Rights<J>, AllocError>
         requires book { self.book ≡ J.book }
-        requires plan { self.plan ≡ J.plan }
+        requires plan { (self.plan ≡ J.plan) × (plan.now ≡ J.plan) }
         requires sessions { self.sessions ≡ J.sessions }
-        requires base { base < base_count J.plan }
-        ensures { result.1 ≡ record { base = base; len = 0; seen = [] } }
+        ensures start { IfOk result (λ r. r.start ≡ []) }
+        ensures logs { IfOk result (λ r. r.logs.items ≡ empty_fronts (base_count J.plan)) }
+        ensures words { IfOk result (λ r. AreFresh 0 r.words.items) }
+        ensures count { IfOk result (λ r. length r.words.items ≡ J.sessions) }
     {
         let Opened {
             words,
@@ -110,16 +130,59 @@ impl Opened {
             sessions,
             seen,
         } = self;
-        (
-            Book {
+        let logs = first_logs(alloc, bases, &seen)?;
+        let own = first_words(alloc, plan, sessions, &seen)?;
+        Ok(Rights {
+            book: Book {
                 words,
                 bases,
                 sessions,
                 of: PhantomData,
             },
-            Front::first(base, seen),
-        )
+            start: Part::of(&seen),
+            logs,
+            words: own,
+        })
     }
+}
+
+// A log for each base shard.
+fn first_logs<J: Naming>(
+    alloc: Global,
+    bases: usize,
+    seen: &Seen<LogPage, u64, Law>,
+) -> Result<Vec<Log<J>>, AllocError>
+    requires book { seen.now.book ≡ J.book }
+    requires log { seen.now.log ≡ opens J.plan J.sessions ∷ [] }
+    requires bases { bases ≡ base_count J.plan }
+    ensures { IfOk result (λ v. v.items ≡ empty_fronts bases) }
+{
+    let mut logs = Vec::new(alloc);
+    for base in 0..bases {
+        logs.push(Log::first(base, seen.again()))?;
+    }
+    Ok(logs)
+}
+
+// A word for each session.
+fn first_words<J: Naming>(
+    alloc: Global,
+    plan: &Plan,
+    sessions: usize,
+    seen: &Seen<LogPage, u64, Law>,
+) -> Result<Vec<SessionWord<J>>, AllocError>
+    requires plan { plan.now ≡ J.plan }
+    requires book { seen.now.book ≡ J.book }
+    requires log { seen.now.log ≡ opens J.plan J.sessions ∷ [] }
+    requires sessions { sessions ≡ J.sessions }
+    ensures words { IfOk result (λ v. AreFresh 0 v.items) }
+    ensures count { IfOk result (λ v. length v.items ≡ sessions) }
+{
+    let mut words = Vec::new(alloc);
+    for number in 0..sessions {
+        words.push(SessionWord::first(alloc, plan, number, seen)?)?;
+    }
+    Ok(words)
 }
 
 fn words(

@@ -10,13 +10,17 @@ ghost use Rattle.model.specs.Places.{base_count};
 
 use crate::book::{Book, Moved};
 use crate::law::{Add, Law, LogPage, Naming};
+use crate::log::Log;
 use crate::part::Part;
 use crate::step::{learn, look_at, try_add};
 use logbook::{Plain, Seen};
 use model::entry::Entry;
+use model::fronts::{Found, Fronts};
+use std::alloc::{AllocError, Global};
 use std::marker::{Model, PhantomData};
 
-/// A beginning of the log of one base shard, and the history that was seen with it.
+/// A beginning of the log of one base shard, and the history that was seen with it. It only tells;
+/// what appends is a `Log`. A copy takes no memory.
 #[derive(Drop)]
 pub struct Front<J: Naming> {
     pub(crate) base: usize,
@@ -113,7 +117,7 @@ impl<J: Naming> Front<J> {
         self.len
     }
 
-    /// A copy.
+    /// A copy, which takes no memory.
     pub fn again(&self) -> Front<J>
         ensures { result ≡ self.now }
     {
@@ -138,7 +142,7 @@ impl<J: Naming> Front<J> {
 
     /// Adds an entry at the end of the log. Errors: where the log was seen to have moved; then the
     /// front stays. Cost: one exchange of the base shard's word.
-    pub fn append(
+    pub(crate) fn append(
         &mut self,
         book: &Book<J>,
         session: u64,
@@ -160,5 +164,84 @@ impl<J: Naming> Front<J> {
         try_add::<J, Writing, Add>(book, self.base, len, &mut self.seen, &asked)?;
         self.len = len + 1;
         Ok(())
+    }
+}
+
+impl<J: Naming> Fronts for Front<J> {
+    ghost use Rattle.std.specs.Prelude.{◌≡◌};
+    ghost use Rattle.book.specs.Fronts.{entries, authors};
+    ghost use Rattle.book.specs.Replies.{IsWhole};
+
+    type Words = Book<J>;
+
+    type Right = Log<J>;
+
+    ghost log = { λ f. record { plan = J.plan; base = f.base; entries = entries f } };
+
+    ghost authors = { λ f. authors f };
+
+    ghost are_one = { λ a b. (a.plan ≡ b.plan) × (a.base ≡ b.base) };
+
+    ghost is_all = { λ f. IsWhole f };
+
+    ghost front = { λ l. l };
+
+    fn base(&self) -> usize {
+        Front::base(self)
+    }
+
+    fn len(&self) -> u64 {
+        Front::len(self)
+    }
+
+    fn is_log(&self) {
+        let _base = Front::base(self);
+        let _len = Front::len(self);
+    }
+
+    fn again(&self, alloc: Global) -> Result<Front<J>, AllocError> {
+        Ok(Front::again(self))
+    }
+
+    fn of(right: &Log<J>, alloc: Global) -> Result<Front<J>, AllocError> {
+        Ok(right.front())
+    }
+
+    fn append(
+        right: &mut Log<J>,
+        alloc: Global,
+        words: &Book<J>,
+        session: usize,
+        number: u64,
+        entry: &Entry,
+    ) -> Result<Found<Front<J>>, AllocError> {
+        let _len = right.len();
+        match right.append(words, session as u64, number, entry) {
+            Ok(()) => Ok(Found::Here),
+            Err(mut front) => {
+                front.catch_up(words);
+                Ok(Found::Moved(front))
+            }
+        }
+    }
+
+    fn look(&mut self, alloc: Global, words: &Book<J>) -> Result<Found<Front<J>>, AllocError> {
+        let _len = Front::len(self);
+        let found = Front::look(self, words);
+        if found == Front::len(self) {
+            Ok(Found::Here)
+        } else {
+            let mut front = Front::again(self);
+            front.catch_up(words);
+            Ok(Found::Moved(front))
+        }
+    }
+
+    fn meet(&self, other: &Front<J>) {
+        let mut mine = self.part();
+        let mut theirs = other.part();
+        mine.meet(&mut theirs);
+        let _len = Front::len(self);
+        let _other = Front::len(other);
     }
 }

@@ -5,6 +5,7 @@ pub mod book;
 pub mod cut;
 pub mod front;
 pub mod law;
+pub mod log;
 pub mod part;
 pub mod reply;
 pub mod session;

@@ -70,7 +70,7 @@ impl<J: Naming> Written<J> {
 
 impl<J: Naming> Front<J> {
     /// Appends, and gives the reply. Errors: where the log has moved; then the entry comes back.
-    pub fn write(
+    pub(crate) fn write(
         &mut self,
         book: &Book<J>,
         session: u64,

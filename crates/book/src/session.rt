@@ -6,6 +6,7 @@ ghost use Rattle.row.specs.Cells.{datum_of};
 ghost use Rattle.plan.specs.Layouts.{view_at};
 ghost use Rattle.model.specs.Cuts.{IsAtMost};
 ghost use Rattle.model.specs.Histories.{floor_at, view_shard};
+ghost use Rattle.book.specs.Pages.{IsLogOf, history_of};
 ghost use Rattle.model.specs.Legal.{IsOwn, IsPast, IsLegal, EachShard};
 ghost use Rattle.model.specs.Queries.{answer as answer_of};
 ghost use Rattle.book.specs.Sessions.{fronts, IsEnded, IsOwnAsk, IsOwnDone, IsRead, IsStolen};
@@ -13,7 +14,6 @@ ghost use Rattle.model.specs.Tables.{places_of};
 
 use crate::book::{Book, Moved};
 use crate::cut::{Cut, Cuts};
-use crate::front::Front;
 use crate::law::{Add, Law, LogPage, Naming};
 use crate::part::Part;
 use crate::step::{learn, try_add};
@@ -96,24 +96,26 @@ impl<'a> Plain<Fencing<'a>, LogPage, u64> for Add {
 }
 
 impl<J: Naming> SessionWord<J> {
-    /// A session that has answered nothing, and has seen what the front has.
-    pub fn first(
+    /// A session that has answered nothing, and has seen what the token has. Errors: memory only.
+    pub(crate) fn first(
         alloc: Global,
         plan: &Plan,
         number: usize,
-        front: &Front<J>,
+        seen: &Seen<LogPage, u64, Law>,
     ) -> Result<SessionWord<J>, AllocError>
         requires plan { plan.now ≡ J.plan }
         requires number { number < J.sessions }
+        requires book { seen.now.book ≡ J.book }
+        requires log { IsLogOf J.plan J.sessions seen.now.log }
         ensures { IfOk result (λ s. (s.session ≡ number) × (s.answered ≡ 0)
-            × (s.seen ≡ front.now.seen) × ((v j : ℕ) → floor_at s.floors v j ≡ [])) }
+            × (s.seen ≡ history_of seen.now.log) × ((v j : ℕ) → floor_at s.floors v j ≡ [])) }
     {
         let floors = Floors::zeros(alloc, plan)?;
         Ok(SessionWord {
             number,
             answered: 0,
             floors,
-            seen: front.seen.again(),
+            seen: seen.again(),
             of: PhantomData,
         })
     }

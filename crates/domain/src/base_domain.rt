@@ -1,14 +1,14 @@
 //! The domain of one base shard.
 ghost use Rattle.std.specs.Prelude.{◌≡◌, ◌⊎◌, ℕ, ◌<◌, ◌≤◌, ◌++◌, ◌∷◌, [], List, true, false, length, replicate, slice_index_or, IfOk, OnOk, IfErr, Err, IsErr, IfSome, IsSome, IsSomeAnd, IfNone, IsTrue, IsFalse, None, Some};
-ghost use Rattle.row.specs.Changes.{Turns};
 ghost use Rattle.plan.specs.Layouts.{table_at};
-ghost use Rattle.model.specs.Entries.{change_of};
-ghost use Rattle.model.specs.Logs.{Change, rows_of};
-ghost use Rattle.model.specs.Places.{base_at};
-ghost use Rattle.model.specs.Refusals.{refusal_over};
 ghost use Rattle.base.specs.Records.{records_of};
 ghost use Rattle.base.specs.Shards.{IsAt, HasKey, HasRoom};
+ghost use Rattle.model.specs.Refusals.{refusal_over};
+ghost use Rattle.model.specs.Places.{layout_of};
+ghost use Rattle.row.specs.Changes.{Turns};
 ghost use Rattle.domain.specs.Bases.{Declines, Domain, IsAnswer, Sends, Stops, Takes, refusal_at};
+ghost use Rattle.model.specs.Entries.{change_of};
+ghost use Rattle.model.specs.Logs.{Change, rows_of};
 
 use crate::message::{Declined, Reply, Write};
 use crate::packet::BasePacket;
@@ -16,9 +16,8 @@ use base::shard::BaseShard;
 use book::book::Book;
 use book::front::Front;
 use book::law::Naming;
-use book::part::Part;
+use book::log::{Log, Unwritten};
 use model::entry::Entry;
-use model::places::base_at;
 use plan::plan::Plan;
 use row::record::Record;
 use row::refused::Refused;
@@ -28,12 +27,12 @@ use std::marker::Model;
 /// The most entries of a log.
 const LIMIT: u64 = 4294967295;
 
-/// One base shard with the front of its log, at which its rows stand, and for each session the
-/// least number that its next write may have.
+/// One base shard with its log, the right to append to it, at whose front its rows stand, and for
+/// each session the least number that its next write may have.
 #[derive(Drop)]
 pub struct BaseDomain<J: Naming> {
     shard: BaseShard,
-    front: Front<J>,
+    log: Log<J>,
     next: Vec<u64>,
     stopped: bool,
 }
@@ -43,9 +42,9 @@ impl<J: Naming> Model for BaseDomain<J> {
 
     ghost Value = { Domain };
 
-    ghost view = { λ d. record { front = d.front; next = d.next.items; stopped = d.stopped } };
+    ghost view = { λ d. record { front = d.log; next = d.next.items; stopped = d.stopped } };
 
-    ghost invariant = { λ d. IsDomain J.plan d.shard d.front d.next.items };
+    ghost invariant = { λ d. IsDomain J.plan d.shard d.log d.next.items };
 }
 
 /// What a base shard does with a write: it replies, and where it accepted the entry it also tells
@@ -79,29 +78,27 @@ struct Ready {
 }
 
 impl<J: Naming> BaseDomain<J> {
-    /// A domain of a base shard whose log is empty, for so many sessions. Refused for want of
-    /// memory alone.
+    /// The domain of a shard of a table, which takes the shard's log while that is empty, for so
+    /// many sessions. Refused for want of memory alone.
     pub fn new(
         alloc: Global,
         plan: &Plan,
         table: usize,
-        shard: usize,
+        log: Log<J>,
         sessions: usize,
-        part: &Part<J>,
     ) -> Result<BaseDomain<J>, AllocError>
         requires plan { plan.now ≡ J.plan }
         requires table { table < length plan.now.tables }
-        requires shard { shard < (table_at plan.now table).shards }
-        ensures base { IfOk result (λ d. d.front.base ≡ base_at plan.now table shard) }
-        ensures len { IfOk result (λ d. d.front.len ≡ 0) }
+        requires base { layout_of plan.now log.base ≡ table_at plan.now table }
+        requires empty { log.len ≡ 0 }
+        ensures front { IfOk result (λ d. d.front ≡ log) }
         ensures next { IfOk result (λ d. d.next ≡ replicate sessions 0) }
         ensures running { IfOk result (λ d. d.stopped ≡ false) }
     {
-        let front = part.front(base_at(plan, table, shard));
         let next = vec![in alloc; 0u64; sessions]?;
         Ok(BaseDomain {
             shard: BaseShard::new(alloc, plan.table(table).key(), LIMIT),
-            front,
+            log,
             next,
             stopped: false,
         })
@@ -111,14 +108,14 @@ impl<J: Naming> BaseDomain<J> {
     pub fn base(&self) -> usize
         ensures { result ≡ self.now.front.base }
     {
-        self.front.base()
+        self.log.base()
     }
 
-    /// A copy of its front.
+    /// A copy of its front, which only tells.
     pub fn front(&self) -> Front<J>
         ensures { result ≡ self.now.front }
     {
-        self.front.again()
+        self.log.front()
     }
 
     /// Whether it has stopped.
@@ -132,7 +129,7 @@ impl<J: Naming> BaseDomain<J> {
     pub fn stop(&mut self)
         ensures { self.new ≡ record { front = self.old.front; next = self.old.next; stopped = true } }
     {
-        let _front = &self.front;
+        let _log = &self.log;
         self.stopped = true;
     }
 
@@ -200,7 +197,7 @@ impl<J: Naming> BaseDomain<J> {
             number,
             entry,
             refused,
-            front: self.front.again(),
+            front: self.log.front(),
         }
     }
 
@@ -214,7 +211,7 @@ impl<J: Naming> BaseDomain<J> {
         ensures answer { IsAnswer write result }
         ensures outcome { ((result.refused ≡ refused) × (self.new ≡ self.old)) ⊎ Stops self.old result self.new }
     {
-        let mut front = self.front.again();
+        let mut front = self.log.front();
         let refused = if front.look(book) == front.len() {
             refused
         } else {
@@ -260,12 +257,10 @@ impl<J: Naming> BaseDomain<J> {
             entry,
             ..
         } = write;
-        let from = self.front.len();
-        let mut front = self.front.again();
-        match front.write(book, session as u64, number, entry) {
+        let from = self.log.len();
+        match self.log.write(book, session as u64, number, entry) {
             Ok(written) => {
-                let packet = BasePacket::new(from, front.again(), ready.changes);
-                self.front = front;
+                let packet = BasePacket::new(from, self.log.front(), ready.changes);
                 self.next[session] = number + 1;
                 self.shard.commit(ready.kept);
                 Outcome {
@@ -273,7 +268,7 @@ impl<J: Naming> BaseDomain<J> {
                     packet: Some(packet),
                 }
             }
-            Err(entry) => {
+            Err(Unwritten { entry, front }) => {
                 self.stopped = true;
                 Outcome::of_declined(Declined {
                     session,

@@ -1,0 +1,145 @@
+//! Logs: the right to append.
+ghost use Rattle.std.specs.Prelude.{◌≡◌, ◌<◌, ◌≤◌, [], ◌∷◌, length, IfOk, OnOk, IfErr};
+ghost use mathlib.Core.List.{IsPrefix};
+ghost use Rattle.model.specs.Entries.{change_of};
+ghost use Rattle.model.specs.Histories.{log_of};
+ghost use Rattle.model.specs.Legal.{IsLegal};
+ghost use Rattle.model.specs.Places.{base_count};
+ghost use Rattle.book.specs.Fronts.{entries, authors, IsAppended, IsMoved, MayAppend};
+ghost use Rattle.book.specs.Pages.{opens};
+ghost use Rattle.book.specs.Replies.{IsAccepted};
+ghost use Rattle.book.specs.Rights.{empty_front};
+
+use crate::book::Book;
+use crate::front::Front;
+use crate::law::{Law, LogPage, Naming};
+use crate::part::Part;
+use crate::reply::Written;
+use logbook::Seen;
+use model::entry::Entry;
+use std::marker::Model;
+
+/// The right to append to the log of one base shard, with the front at which it appends. A book
+/// hands out one for each base shard, and none can be copied: no entry comes into a log but by it.
+#[derive(Drop)]
+pub struct Log<J: Naming> {
+    front: Front<J>,
+}
+
+impl<J: Naming> Model for Log<J> {
+    ghost use Rattle.book.specs.Fronts.{FrontView};
+
+    ghost Value = { FrontView };
+
+    ghost view = { λ l. l.front };
+}
+
+/// An entry that was not appended, and a front that has seen further on.
+#[derive(Drop)]
+pub struct Unwritten<J: Naming> {
+    pub entry: Entry,
+    pub front: Front<J>,
+}
+
+impl<J: Naming> Log<J> {
+    /// The log of a base shard in a book with no item.
+    pub(crate) fn first(base: usize, seen: Seen<LogPage, u64, Law>) -> Log<J>
+        requires book { seen.book ≡ J.book }
+        requires log { seen.log ≡ opens J.plan J.sessions ∷ [] }
+        requires base { base < base_count J.plan }
+        ensures { result ≡ empty_front base }
+    {
+        Log {
+            front: Front::first(base, seen),
+        }
+    }
+
+    /// The number of its base shard.
+    pub fn base(&self) -> usize
+        ensures base { result ≡ self.now.base }
+        ensures range { self.now.base < base_count J.plan }
+    {
+        self.front.base()
+    }
+
+    /// How many entries it has. What was seen is a legal history, whose log is no shorter.
+    pub fn len(&self) -> u64
+        ensures len { result ≡ self.now.len }
+        ensures legal { IsLegal J.plan J.sessions self.now.seen }
+        ensures within { self.now.len ≤ length (log_of self.now.base self.now.seen) }
+    {
+        self.front.len()
+    }
+
+    /// Its front, which only tells.
+    pub fn front(&self) -> Front<J>
+        ensures { result ≡ self.now }
+    {
+        self.front.again()
+    }
+
+    /// All that was seen with it.
+    pub fn part(&self) -> Part<J>
+        ensures part { result ≡ self.now.seen }
+    {
+        self.front.part()
+    }
+
+    /// Sees the log as it is, and says how long it is. Its front stays.
+    pub fn look(&mut self, book: &Book<J>) -> u64
+        ensures stays { self.new ≡ record self.old { seen = self.new.seen } }
+        ensures seen { IsPrefix self.old.seen self.new.seen }
+        ensures entries { entries self.new ≡ entries self.old }
+        ensures authors { authors self.new ≡ authors self.old }
+        ensures found { result ≡ length (log_of self.new.base self.new.seen) }
+    {
+        self.front.look(book)
+    }
+
+    /// Adds an entry at the end of the log. Errors: where the log has moved; then a front comes that
+    /// has seen so, and this log is as it was. Cost: one exchange of the base shard's word.
+    pub fn append(
+        &mut self,
+        book: &Book<J>,
+        session: u64,
+        number: u64,
+        entry: &Entry,
+    ) -> Result<(), Front<J>>
+        requires { MayAppend J.plan self.old session number (change_of entry.now) }
+        ensures appended { OnOk result (IsAppended J.plan self.old session number
+            (change_of entry.now) self.new) }
+        ensures moved { IfErr result (λ f. (self.new ≡ self.old) × IsMoved self.old f) }
+    {
+        let mut front = self.front.again();
+        let Ok(()) = front.append(book, session, number, entry) else {
+            return Err(front);
+        };
+        self.front = front;
+        Ok(())
+    }
+
+    /// Adds an entry at the end of the log, and gives the reply. Errors: where the log has moved;
+    /// then the entry comes back, with a front that has seen so, and this log is as it was.
+    pub fn write(
+        &mut self,
+        book: &Book<J>,
+        session: u64,
+        number: u64,
+        entry: Entry,
+    ) -> Result<Written<J>, Unwritten<J>>
+        requires { MayAppend J.plan self.old session number (change_of entry) }
+        ensures accepted { IfOk result (λ w. IsAccepted J.plan self.old session number
+            (change_of entry) self.new w) }
+        ensures moved { IfErr result (λ u. (self.new ≡ self.old) × IsMoved self.old u.front
+            × (u.entry ≡ entry)) }
+    {
+        let mut front = self.front.again();
+        match front.write(book, session, number, entry) {
+            Ok(written) => {
+                self.front = front;
+                Ok(written)
+            }
+            Err(entry) => Err(Unwritten { entry, front }),
+        }
+    }
+}
