@@ -3,5 +3,6 @@ pub mod Fronts
 pub mod Lookups
 pub mod Stores
 pub mod Checks
+pub mod Finds
 pub mod Fitting
 pub mod Records

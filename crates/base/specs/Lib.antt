@@ -1,3 +1,4 @@
 pub mod Shards
 pub mod Stored
 pub mod Records
+pub mod Parts

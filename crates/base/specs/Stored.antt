@@ -1,9 +1,16 @@
 -- How a base shard stores its rows. No public clause cites it.
 use Rattle.std.specs.Prelude.{◌≡◌, ℕ, ◌<◌, All, List, Option, Some, IfSome, slice_get}
-use Rattle.std.specs.HashMap.{HashMap, IsUnique, spare}
-use Rattle.row.specs.Cells.{Cells, datum_of}
+use Rattle.std.specs.HashMap.{HashMap, IsUnique, spare, values}
+use Rattle.std.specs.Option.{option_map}
+use Rattle.row.specs.Bags.{sorted}
+use Rattle.row.specs.Cells.{Cells, datum_of, row_cmp}
 use Rattle.row.specs.declared.value.Value.{Value}
 use Rattle.row.specs.Groups.{equal}
+use Rattle.base.specs.Shards.{Shard}
+
+-- what is stored, as callers see it
+abbrev pub stored : {S : Type 0} → ℕ → ℕ → ℕ → HashMap Value Cells S → Option Value → Shard
+stored key limit count rows ready = record { key = key; limit = limit; rows = sorted row_cmp (values rows); length = count; room = option_map datum_of ready }
 
 -- the row has its key in the key column
 abbrev pub IsKeyed : ℕ → Value × Cells → Type 0

@@ -1,5 +1,5 @@
 //! The rows of one shard of one table, by their keys.
-ghost use Rattle.std.specs.Prelude.{◌≡◌, ◌+◌, ◌++◌, ◌∷◌, [], List, filter, ◌<◌, ◌↔◌, true, false, if◌then◌else◌, IsTrue, IsOk, OnOk, IfOk, OnErr, IsOkUnless, Some, None, length};
+ghost use Rattle.std.specs.Prelude.{◌≡◌, ◌≢◌, ◌+◌, ◌++◌, ◌∷◌, [], List, filter, ◌<◌, ◌↔◌, true, false, if◌then◌else◌, IsTrue, IsOk, OnOk, IfOk, OnErr, IsOkUnless, Some, None, length};
 ghost use Rattle.std.specs.List.Sorted.{IsPermutation};
 ghost use Rattle.std.specs.HashMap.{get, spare, IsUnique};
 ghost use Rattle.row.specs.Cells.{datum_of, cell_at, has};
@@ -8,9 +8,11 @@ ghost use Rattle.model.specs.Logs.{Change, inserts, deletes, updates, is_held, k
 ghost use Rattle.model.specs.Refusals.{full, refusal};
 ghost use Rattle.model.specs.Entries.{change_of};
 ghost use Rattle.base.specs.Shards.{Shard, IsAt, HasKey, HasRoom, adds_row, room_after, rows_with, rows_after, rows_changed, after_entry, refusal_of, verdict};
+ghost use Rattle.base.specs.Parts.{found};
 ghost use Rattle.base.specs.Records.{plus_of, minus_of, records_of, records_at, record_count};
 ghost use Rattle.row.specs.Groups.{equal};
 
+use crate::part::Part;
 use model::entry::Entry;
 use row::record::{Record, Sign};
 use row::refused::Refused;
@@ -32,16 +34,12 @@ pub struct BaseShard {
 }
 
 impl Model for BaseShard {
-    ghost use Rattle.std.specs.HashMap.{values};
-    ghost use Rattle.std.specs.Option.{option_map};
-    ghost use Rattle.row.specs.Cells.{datum_of, row_cmp};
-    ghost use Rattle.row.specs.Bags.{sorted};
     ghost use Rattle.base.specs.Shards.{Shard};
-    ghost use Rattle.base.specs.Stored.{IsStored};
+    ghost use Rattle.base.specs.Stored.{IsStored, stored};
 
     ghost Value = { Shard };
 
-    ghost view = { λ s. record { key = s.key_column; limit = s.limit; rows = sorted row_cmp (values s.rows); length = s.entry_count; room = option_map datum_of s.ready } };
+    ghost view = { λ s. stored s.key_column s.limit s.entry_count s.rows s.ready };
 
     ghost invariant = { λ s. IsStored s.key_column s.rows s.ready };
 }
@@ -185,6 +183,32 @@ impl BaseShard {
             row: row.try_clone(alloc)?,
             sign: Sign::Minus,
         })
+    }
+
+    /// The rows of the part that have the value in the column, in order, a repeat each time: what the
+    /// front of the log has of them. Errors: memory only. Cost: a look at each row of the shard, a
+    /// copy of each that is found, and a sort of those.
+    pub fn lookup(
+        &self,
+        alloc: Global,
+        column: usize,
+        value: &Value,
+        part: Part,
+    ) -> Result<Vec<Row>, AllocError>
+        requires { part.shards ≢ 0 }
+        ensures rows { IfOk result (λ v. v.items
+            ≡ found column (datum_of value.now) part self.now.rows) }
+        ensures front { IfOk result (λ v. (front : List Change) → IsAt self.now front → v.items
+            ≡ found column (datum_of value.now) part (rows_of self.now.key front)) }
+    {
+        let mut found = Vec::new(alloc);
+        for row in self.rows.values() {
+            if part.has(row) && row.has(column, value) {
+                found.push(row.try_clone(alloc)?)?;
+            }
+        }
+        found.sort()?;
+        Ok(found)
     }
 
     /// Room for the entry, so that `commit` takes no memory. Only an Insert needs any: one more
