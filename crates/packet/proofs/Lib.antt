@@ -1,0 +1,5 @@
+mod TruthSamples
+pub mod Ascending
+pub mod KeptKeys
+mod Splits
+mod Edges

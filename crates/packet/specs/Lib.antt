@@ -1,0 +1,10 @@
+pub mod Readers
+pub mod Messages
+pub mod Keys
+pub mod Marks
+pub mod Named
+pub mod Truth
+pub mod Split
+pub mod Codes
+pub mod Answers
+pub mod Outboxes

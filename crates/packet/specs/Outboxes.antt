@@ -1,0 +1,40 @@
+-- What a domain puts out.
+use Rattle.std.specs.Prelude.{◌≡◌, ℕ, ◌-◌, ◌<◌, List, [], ◌∷◌, ◌++◌, map, slice_index_or, slice_set, Option, None}
+use Rattle.row.specs.Bags.{Each}
+use Rattle.packet.specs.Messages.{BasePacketView, none_of}
+use Rattle.packet.specs.Answers.{AnswerView}
+
+-- the packets of one edge, in order, and how many more it takes with no memory
+pub record EdgeView : Type 0 where
+  pub packets : List BasePacketView
+  pub room : ℕ
+
+-- the edge to each stage shard, and the reply to a write
+pub record OutboxView (F : Type 0) : Type 0 where
+  pub edges : List EdgeView
+  pub reply : Option (AnswerView F)
+
+-- an edge with nothing on it
+abbrev pub no_edge : EdgeView
+no_edge = record { packets = []; room = 0 }
+
+-- the packets of each edge
+abbrev pub packets_on : List EdgeView → List (List BasePacketView)
+packets_on edges = map (λ (e : EdgeView). e.packets) edges
+
+-- nothing is put out
+pub record IsClear {F : Type 0} (out : OutboxView F) : Type 0 where
+  pub packets : packets_on out.edges ≡ none_of out.edges
+  pub reply : out.reply ≡ None
+
+-- each edge takes one more packet with no memory
+abbrev pub HaveRoom : List EdgeView → Type 0
+HaveRoom edges = Each (λ (e : EdgeView). 0 < e.room) edges
+
+-- one packet more, behind the others
+abbrev pub with_packet : BasePacketView → EdgeView → EdgeView
+with_packet x e = record { packets = e.packets ++ x ∷ []; room = e.room - 1 }
+
+-- on edge i
+abbrev pub with_packet_on : ℕ → BasePacketView → List EdgeView → List EdgeView
+with_packet_on i x edges = slice_set edges i (with_packet x (slice_index_or edges i no_edge))

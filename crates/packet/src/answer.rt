@@ -1,0 +1,96 @@
+//! The answer to a write.
+ghost use Rattle.std.specs.Prelude.{◌≡◌};
+ghost use Rattle.model.specs.Entries.{change_of};
+ghost use Rattle.packet.specs.Answers.{IsAnswer};
+
+use model::entry::Entry;
+use model::fronts::Fronts;
+use row::refused::Refused;
+use std::marker::Model;
+
+/// The answer of a base shard to a write: the index of its entry, or why it was refused. Accepted,
+/// the entry stands in the log at the index under the write's session and number, as the front
+/// shows. Refused by the log, the front has all of the log that was seen, and no item of the call.
+/// An answer whose front would take memory that is refused has none: its refusal is `NoMemory` or
+/// `Stopped`, or it was accepted by a shard that then stopped.
+#[derive(Drop)]
+pub struct Answer<F: Fronts> {
+    session: usize,
+    number: u64,
+    entry: Entry,
+    refused: Option<Refused>,
+    index: u64,
+    front: Option<F>,
+}
+
+impl<F: Fronts> Model for Answer<F> {
+    ghost use Rattle.model.specs.Entries.{change_of};
+    ghost use Rattle.packet.specs.Answers.{AnswerView, IsAnswer};
+
+    ghost Value = { AnswerView F };
+
+    ghost view = { λ a. record { session = a.session; number = a.number; entry = change_of a.entry; refused = a.refused; index = a.index; front = a.front } };
+
+    ghost invariant = { λ a. IsAnswer F.log F.authors F.is_all (record { session = a.session; number = a.number; entry = change_of a.entry; refused = a.refused; index = a.index; front = a.front }) };
+}
+
+impl<F: Fronts> Answer<F> {
+    /// An answer of these parts.
+    pub fn new(
+        session: usize,
+        number: u64,
+        entry: Entry,
+        refused: Option<Refused>,
+        index: u64,
+        front: Option<F>,
+    ) -> Answer<F>
+        requires { IsAnswer F.log F.authors F.is_all (record {
+          session = session;
+          number = number;
+          entry = change_of entry;
+          refused = refused;
+          index = index;
+          front = front;
+        }) }
+        ensures { result ≡ record {
+          session = session;
+          number = number;
+          entry = change_of entry;
+          refused = refused;
+          index = index;
+          front = front;
+        } }
+    {
+        Answer {
+            session,
+            number,
+            entry,
+            refused,
+            index,
+            front,
+        }
+    }
+
+    /// Why it was refused, if it was.
+    pub fn refused(&self) -> Option<Refused>
+        ensures { result ≡ self.now.refused }
+    {
+        self.refused
+    }
+
+    /// The index of the entry, where it was accepted.
+    pub fn index(&self) -> u64
+        ensures { result ≡ self.now.index }
+    {
+        self.index
+    }
+
+    /// The entry, and the front that shows the answer, moved out of it.
+    pub fn into_parts(self) -> (Entry, Option<F>)
+        ensures entry { change_of result.0 ≡ self.entry }
+        ensures front { result.1 ≡ self.front }
+        ensures answer { IsAnswer F.log F.authors F.is_all self }
+    {
+        (self.entry, self.front)
+    }
+}

@@ -1,0 +1,10 @@
+//! What goes between domains: packets, requests and markers, when they are true, and what a base
+//! domain puts out.
+#![tactic(auto)]
+
+pub mod answer;
+pub mod base_packet;
+pub mod outbox;
+pub mod piece;
+pub mod request;
+pub mod split;
