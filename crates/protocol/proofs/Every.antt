@@ -1,0 +1,87 @@
+-- Every schedule: the replies tell of a legal history.
+use Rattle.std.proofs.Common.{List, [], ◌∷◌, ◌++◌, slice_get, slice_index_or, Some, None, refl, ap, sym, ◌∙◌, subst}
+use Rattle.plan.specs.Layouts.{Layout, view_named}
+use Rattle.plan.specs.Profile.{IsPlan}
+use Rattle.model.specs.Histories.{Item}
+use Rattle.model.specs.Legal.{IsLegal, most_sessions}
+use Rattle.model.specs.Refusals.{evict_refusal}
+use Rattle.protocol.specs.Worlds.{World, start, Node}
+use Rattle.protocol.specs.Events.{Event, write, try_read, want, fence, count, deliver, evict_stage, evict_view, stop, settle, Reply}
+use Rattle.protocol.specs.Theorem.{Tell, EverySchedule}
+use Rattle.protocol.specs.WorldSteps.{most_rounds, step, replies}
+use Rattle.protocol.specs.Edges.{wire_of}
+use mathlib.Core.List.{IsPrefix}
+use Rattle.packet.specs.Truth.{IsRun, IsBaseRun, Grows}
+use Rattle.protocol.specs.Stages.{Stage}
+use Rattle.protocol.specs.Views.{View}
+use Rattle.protocol.proofs.Wired.{Good, IsReached, Led, Three, source_logs, lines_of}
+use Rattle.protocol.proofs.Lists.{pair_at}
+use Rattle.protocol.proofs.EdgeLaws.{three_next}
+use Rattle.protocol.proofs.Start.{start_good}
+use Rattle.protocol.proofs.Writes.{Tells, write_tells}
+use Rattle.protocol.proofs.Calls.{read_tells, want_tells, count_tells, fence_tells, evicts_stage, evicts_view, stop_tells, deliver_tells, settle_tells}
+use Rattle.protocol.specs.Laws.{StagesInTurn, ViewsInTurn, world_after, EveryTurn}
+
+-- one event: its reply tells of items that are allowed, and all holds of the world after it
+pub step_tells : (w : World) (past : List Event) (h : List Item) (e : Event) → Good w past h → Tells w past h e (step w e)
+step_tells w past h (write se table e) g = write_tells w past h se (slice_get w.callers se) table e refl g
+step_tells w past h (try_read se view k) g = read_tells w past h se (slice_get w.callers se) view k refl g
+step_tells w past h (want se view k) g = want_tells w past h se view k g (slice_get w.callers se)
+step_tells w past h (fence se) g = fence_tells w past h se (slice_get w.callers se) refl g
+step_tells w past h (count se view) g = count_tells w past h se view g (slice_get w.callers se)
+step_tells w past h (deliver edge) g = deliver_tells w past h g edge (wire_of w.plan edge)
+step_tells w past h (evict_stage k) g = evicts_stage w past h (evict_stage k) (λ se. refl) (λ b. refl) (λ r. refl) refl k g (evict_refusal w.plan None k)
+step_tells w past h (evict_view view k) g = evicts_view w past h (evict_view view k) (λ se. refl) (λ b. refl) (λ r. refl) refl k g (view_named w.plan view) (evict_refusal w.plan (Some (view_named w.plan view)) k)
+step_tells w past h (stop d) g = stop_tells w past h g d
+step_tells w past h settle g = settle_tells w past h g most_rounds
+
+-- from a world of which all holds on
+abbrev IsTold : Layout → List Event → List Item → List Event → List Reply → Type 0
+IsTold p past h events rs = (all : List Item) × Tell p past h events rs all × IsLegal p most_sessions all
+
+all_told : (events : List Event) (w : World) (past : List Event) (h : List Item) → Good w past h → IsTold w.plan past h events (replies w events)
+all_told [] w past h g = (h, refl, g.history.legal)
+all_told (e ∷ es) w past h g =
+    let t = step_tells w past h e g in
+    let r = subst (λ p. IsTold p (past ++ e ∷ []) (h ++ t.is) es (replies (step w e).world es)) t.kept.plan (all_told es (step w e).world (past ++ e ∷ []) (h ++ t.is) t.kept.good) in
+    (r.0, (t.is, t.told, r.1), r.2)
+
+pub every_schedule : EverySchedule
+every_schedule p g events =
+    let r : IsTold p [] [] events (replies (start p) events) = all_told events (start p) [] [] (start_good p g) in
+    (r.0, (r.1, r.2))
+
+-- for the code: an invariant of the world that each event keeps
+pub reached_start : (p : Layout) → IsPlan p → IsReached (start p)
+reached_start p g = ([], [], start_good p g)
+
+pub reached_step : (w : World) (e : Event) → IsReached w → IsReached (step w e).world
+reached_step w e r = let t = step_tells w r.0 r.1 e r.2 in (r.0 ++ e ∷ [], r.1 ++ t.is, t.kept.good)
+
+-- a packet that is the first for a domain that runs begins at the front that the domain holds
+stage_next : (w : World) → IsReached w → StagesInTurn w
+stage_next w r s j n k ks at runs q =
+    let inbox = slice_index_or w.to_stage s [] in
+    let t = subst (λ b. Three (Led IsBaseRun IsPrefix b) n.is.line inbox (source_logs w.plan w.bases)) runs
+    (pair_at (λ (n : Node Stage) inbox. Three (Led IsBaseRun IsPrefix n.runs) n.is.line inbox (source_logs w.plan w.bases)) w.stages w.to_stage s n [] at r.2.wired.lines) in
+    let x = three_next IsBaseRun IsPrefix n.is.line inbox (source_logs w.plan w.bases) j k ks q t in
+    let l = x.3 in
+    record { from = x.2 ∙ ap Some (sym l.0); grows = l.1.grows }
+
+view_next : (w : World) → IsReached w → ViewsInTurn w
+view_next w g r s n x xs at runs q =
+    let inbox = slice_index_or w.to_view r [] in
+    let t = subst (λ b. Three (Led IsRun Grows b) n.is.cut inbox (lines_of w.stages)) runs
+    (pair_at (λ (n : Node View) inbox. Three (Led IsRun Grows n.runs) n.is.cut inbox (lines_of w.stages)) w.views w.to_view r n [] at g.2.wired.cuts) in
+    let k = three_next IsRun Grows n.is.cut inbox (lines_of w.stages) s x xs q t in
+    let l = k.3 in
+    record { from = k.2 ∙ ap Some (sym l.0); grows = l.1 }
+
+reached_after : (events : List Event) (w : World) → IsReached w → IsReached (world_after w events)
+reached_after [] w r = r
+reached_after (e ∷ es) w r = reached_after es (step w e).world (reached_step w e r)
+
+pub every_turn : EveryTurn
+every_turn p g events =
+    let r = reached_after events (start p) (reached_start p g) in
+    (stage_next (world_after (start p) events) r, view_next (world_after (start p) events) r)

@@ -1,0 +1,12 @@
+pub mod Bases
+pub mod BaseSteps
+pub mod Stages
+pub mod StageSteps
+pub mod Views
+pub mod ViewSteps
+pub mod Worlds
+pub mod Events
+pub mod Edges
+pub mod WorldSteps
+pub mod Theorem
+pub mod Laws
