@@ -1,0 +1,9 @@
+mod Sent
+mod Edges
+mod Parts
+mod Dones
+mod Entries
+mod Numbers
+mod Writes
+mod Accepts
+mod Arms

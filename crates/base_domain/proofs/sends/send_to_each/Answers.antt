@@ -1,0 +1,33 @@
+use Rattle.std.proofs.Common.{◌≡◌, ◌∷◌, ◌++◌, [], length, length-set, append_assoc, map, sym, ◌∙◌, ap, refl, subst}
+use Rattle.std.proofs.lemmas.List.{append-nil}
+use Rattle.packet.specs.Outboxes.{OutboxView, packets_on}
+use Rattle.base_domain.proofs.Edges.{Filled, filled_none, next_room, next_filled, next_count, filled_all, none_left}
+use Rattle.base_domain.proofs.sends.send_to_each.Goals as goal
+
+pub loop-packet-init : goal.loop-packet-init
+loop-packet-init g c = ([], c.into_iter-packet-iterator.ensures.into_iter_gives.0, refl, filled_none c.args.out.now.edges c.requires.clear c.requires.room, refl, refl)
+
+pub push-requires-clause-room : goal.push-requires-clause-room
+push-requires-clause-room g c =
+    let i = c.loop-packet.invariant in
+    next_room i.0 c.in-Some.packet c.next.new.self.rest.items c.args.packets.items c.loop-packet.out.edges c.loop-packet.stage i.2 i.3 (ap (λ l. i.0 ++ l) (sym c.in-Some.ensures.steps.0) ∙ i.1) (c.requires.count ∙ sym i.4)
+
+pub loop-packet-preserved : goal.loop-packet-preserved
+loop-packet-preserved g c =
+    let i = c.loop-packet.invariant in
+    let edges = ap (λ (o : OutboxView g.row.F.Denot). o.edges) c.push.ensures in
+    let whole = ap (λ l. i.0 ++ l) (sym c.in-Some.ensures.steps.0) ∙ i.1 in (
+      i.0 ++ c.in-Some.packet ∷ [],
+      append_assoc i.0 (c.in-Some.packet ∷ []) c.next.new.self.rest.items ∙ whole,
+      next_count i.0 c.in-Some.packet c.loop-packet.stage i.2,
+      subst (λ es. Filled (i.0 ++ c.in-Some.packet ∷ []) es) (sym edges) (next_filled i.0 c.in-Some.packet c.next.new.self.rest.items c.args.packets.items c.loop-packet.out.edges c.loop-packet.stage i.2 i.3 whole (c.requires.count ∙ sym i.4)),
+      ap length edges ∙ length-set c.loop-packet.out.edges c.loop-packet.stage _ ∙ i.4,
+      ap (λ (o : OutboxView g.row.F.Denot). o.reply) c.push.ensures ∙ i.5,
+    )
+
+pub returns-clause-sent : goal.returns-clause-sent
+returns-clause-sent g c =
+    let i = c.loop-packet.invariant in
+    let none = none_left c.loop-packet.packet-iterator.rest.items (sym (c.loop-packet.packet-iterator.rest.ok.0) ∙ c.in-None.ensures.steps.0) in
+    let all = sym (append-nil i.0) ∙ ap (λ l. i.0 ++ l) (sym none) ∙ i.1 in
+    subst (λ l. packets_on c.loop-packet.out.edges ≡ map (λ x. x ∷ []) l) all (filled_all i.0 c.loop-packet.out.edges i.3 (ap length all ∙ c.requires.count ∙ sym i.4))

@@ -1,0 +1,4 @@
+pub mod Codes
+pub mod Domains
+pub mod Received
+pub mod Told

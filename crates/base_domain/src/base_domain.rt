@@ -1,0 +1,376 @@
+//! One base shard with the right to append to its log.
+ghost use Rattle.std.specs.Prelude.{◌≡◌, ◌<◌, ◌≤◌, Err, [], ◌∷◌, true, false, Some, None, length, map, replicate, IfOk, OnOk, OnErr, IfErr, IsOkUnless};
+ghost use Rattle.model.specs.Entries.{change_of};
+ghost use Rattle.packet.specs.Messages.{none_of};
+ghost use Rattle.packet.specs.Outboxes.{IsClear, packets_on};
+ghost use Rattle.std.specs.List.{range_with_len};
+ghost use Rattle.base_domain.specs.Received.{Fails, Goes, IsAnswered, IsCutShort, IsDone, IsFor, base_at, refusal_at};
+ghost use Rattle.packet.specs.Codes.{mark_of};
+ghost use Rattle.protocol.specs.Bases.{declined, next_of, request, marker};
+ghost use Rattle.model.specs.Places.{layout_of, table_of};
+ghost use Rattle.protocol.specs.BaseSteps.{appended, quiet, step, still, piece_for};
+ghost use Rattle.base_domain.specs.Codes.{message_of, write_of};
+ghost use Rattle.base.specs.Shards.{HasKey};
+
+use crate::message::{ToBase, Write};
+use crate::packets::{marker_packet, piece_packet, side_at};
+use crate::ready::ready_for;
+use crate::sends::{send_to_each, send_to_one};
+use crate::tells::{answer, answer_accepted, decline, tell, turn_away};
+use base::shard::BaseShard;
+use model::fronts::{Found, Fronts};
+use packet::base_packet::BasePacket;
+use packet::outbox::Outbox;
+use packet::request::{Marker, Request};
+use plan::plan::Plan;
+use row::refused::Refused;
+use std::alloc::{AllocError, Global};
+use std::marker::Model;
+
+/// The most entries of a log.
+const LIMIT: u64 = 4294967295;
+
+/// One base shard with the right to append to its log, at whose front its rows stand, and for each
+/// session the least number that its next write may have.
+#[derive(Drop)]
+pub struct BaseDomain<'p, F: Fronts> {
+    plan: &'p Plan,
+    table: usize,
+    shard: BaseShard,
+    right: F::Right,
+    next: Vec<u64>,
+    stopped: bool,
+}
+
+impl<'p, F: Fronts> Model for BaseDomain<'p, F> {
+    ghost use Rattle.base_domain.specs.Domains.{Domain, HoldsTruth};
+
+    ghost Value = { Domain F };
+
+    ghost view = { λ d. record { front = F.front d.right; next = d.next.items; stopped = d.stopped } };
+
+    ghost invariant = { λ d. HoldsTruth d.plan.now d.table (F.log (F.front d.right)) (F.authors (F.front d.right)) d.shard d.next.items };
+}
+
+impl<'p, F: Fronts> BaseDomain<'p, F> {
+    /// The domain of a shard of a table, which takes the right to the shard's log while that is
+    /// empty, for so many sessions. Errors: memory only.
+    pub fn new(
+        alloc: Global,
+        plan: &'p Plan,
+        table: usize,
+        right: F::Right,
+        sessions: usize,
+    ) -> Result<BaseDomain<'p, F>, AllocError>
+        requires plan { (F.log (F.front right)).plan ≡ plan.now }
+        requires table { table ≡ table_of plan.now (F.log (F.front right)).base }
+        requires place { table < length plan.now.tables }
+        requires empty { (F.log (F.front right)).entries ≡ [] }
+        requires unsaid { F.authors (F.front right) ≡ [] }
+        ensures { IfOk result (λ d. d ≡ record {
+          front = F.front right;
+          next = replicate sessions 0;
+          stopped = false;
+        }) }
+    {
+        let next = vec![in alloc; 0u64; sessions]?;
+        Ok(BaseDomain {
+            plan,
+            table,
+            shard: BaseShard::new(alloc, plan.table(table).key(), LIMIT),
+            right,
+            next,
+            stopped: false,
+        })
+    }
+
+    /// Stops: from then on it answers `Stopped` to every message, and nothing changes.
+    pub fn stop(&mut self)
+        ensures { self.new ≡ record self.old { stopped = true } }
+    {
+        let _table = self.table;
+        self.stopped = true;
+    }
+
+    /// Whether it has stopped.
+    pub fn is_stopped(&self) -> bool
+        ensures { result ≡ self.now.stopped }
+    {
+        self.stopped
+    }
+
+    /// Answers a request of a stage shard with one packet, which has all rows of the key. Errors:
+    /// `NoMemory`, and then no packet is put out, and the domain has stopped.
+    fn answer_request(
+        &mut self,
+        alloc: Global,
+        stage: usize,
+        ask: Request,
+        out: &mut Outbox<F>,
+    ) -> Result<(), Refused>
+        requires ready { IsClear out.old }
+        requires edges { length out.old.edges ≡ (F.log self.old.front).plan.stages }
+        requires stage { stage < length out.old.edges }
+        requires running { self.old.stopped ≡ false }
+        ensures done { OnOk result (IsDone F.log F.authors (request stage ask) self.old
+            (step (base_at F.log F.authors self.old) (request stage ask)) out.new self.new) }
+        ensures only { IfErr result (λ e. e ≡ Refused.NoMemory) }
+        ensures refused { IfErr result (λ e. IsCutShort F.log F.authors (request stage ask) self.old
+            (step (base_at F.log F.authors self.old) (request stage ask)) out.new self.new) }
+        ensures edges { length out.new.edges ≡ length out.old.edges }
+    {
+        let sent = match self.piece(alloc, stage, ask) {
+            Ok(packet) => send_to_one(out, stage, packet),
+            Err(_) => Err(Refused::NoMemory),
+        };
+        self.stopped = sent.is_err();
+        sent
+    }
+
+    /// The packet that answers a request.
+    fn piece(&self, alloc: Global, stage: usize, ask: Request) -> Result<BasePacket<F>, AllocError>
+        ensures { IfOk result (λ k. k ≡ still (base_at F.log F.authors self.now) stage
+            (Some (piece_for (base_at F.log F.authors self.now) stage ask)) None) }
+    {
+        let to = F::of(&self.right, alloc)?;
+        piece_packet(alloc, self.plan, self.table, &self.shard, to, stage, ask)
+    }
+
+    /// Sends a marker on to every stage shard, behind all that was sent before. Errors: `NoMemory`,
+    /// and then no packet is put out, and the domain has stopped.
+    fn pass_marker(
+        &mut self,
+        alloc: Global,
+        mark: Marker,
+        out: &mut Outbox<F>,
+    ) -> Result<(), Refused>
+        requires ready { IsClear out.old }
+        requires edges { length out.old.edges ≡ (F.log self.old.front).plan.stages }
+        requires running { self.old.stopped ≡ false }
+        ensures done { OnOk result (IsDone F.log F.authors (marker (mark_of mark)) self.old
+            (step (base_at F.log F.authors self.old) (marker (mark_of mark))) out.new self.new) }
+        ensures only { IfErr result (λ e. e ≡ Refused.NoMemory) }
+        ensures refused { IfErr result (λ e. IsCutShort F.log F.authors
+            (marker (mark_of mark)) self.old
+            (step (base_at F.log F.authors self.old) (marker (mark_of mark))) out.new self.new) }
+        ensures edges { length out.new.edges ≡ length out.old.edges }
+    {
+        if side_at(self.plan, self.table).is_none() {
+            return Ok(());
+        }
+        let sent = self.send_marker(alloc, mark, out);
+        self.stopped = sent.is_err();
+        sent
+    }
+
+    /// One packet with the marker on each edge. `NoMemory` leaves all edges clear.
+    fn send_marker(&self, alloc: Global, mark: Marker, out: &mut Outbox<F>) -> Result<(), Refused>
+        requires clear { packets_on out.old.edges ≡ none_of out.old.edges }
+        requires edges { length out.old.edges ≡ (F.log self.now.front).plan.stages }
+        ensures only { IsOkUnless result Refused.NoMemory }
+        ensures sent { OnOk result (packets_on out.new.edges
+            ≡ map (λ s. still (base_at F.log F.authors self.now) s None (Some (mark_of mark)) ∷ [])
+            (range_with_len 0 (F.log self.now.front).plan.stages)) }
+        ensures unsent { OnErr result (packets_on out.new.edges ≡ none_of out.new.edges) }
+        ensures edges { length out.new.edges ≡ length out.old.edges }
+        ensures reply { out.new.reply ≡ out.old.reply }
+    {
+        let Ok(packets) = self.markers(alloc, mark) else {
+            return Err(Refused::NoMemory);
+        };
+        out.reserve()?;
+        send_to_each(out, packets);
+        Ok(())
+    }
+
+    /// A packet with the marker for each stage shard.
+    fn markers(&self, alloc: Global, mark: Marker) -> Result<Vec<BasePacket<F>>, AllocError>
+        ensures { IfOk result (λ v. v.items ≡ map (λ s. still (base_at F.log F.authors self.now) s
+            None (Some (mark_of mark))) (range_with_len 0 (F.log self.now.front).plan.stages)) }
+    {
+        let mut packets = Vec::new(alloc);
+        for stage in 0..self.plan.stages() {
+            let to = F::of(&self.right, alloc)?;
+            packets.push(marker_packet(alloc, to, stage, mark))?;
+        }
+        Ok(packets)
+    }
+
+    /// Answers a write that the log refuses, after a look whether this is all of the log. Errors:
+    /// `Stopped` where the log has gone on without the domain, which then stops.
+    fn refuse(
+        &mut self,
+        alloc: Global,
+        words: &F::Words,
+        write: Write,
+        refused: Refused,
+        out: &mut Outbox<F>,
+    ) -> Result<(), Refused>
+        requires ready { IsClear out.old }
+        requires edges { length out.old.edges ≡ (F.log self.old.front).plan.stages }
+        requires running { self.old.stopped ≡ false }
+        requires place { write.session < length self.old.next }
+        requires rises { next_of write.session (F.authors self.old.front) ≤ write.number }
+        requires why { refusal_at (F.log self.old.front) (change_of write.entry) ≡ Some refused }
+        ensures done { OnOk result (Goes F.log F.authors (write_of write) self.old
+            (quiet (base_at F.log F.authors self.old) (Some (declined refused))) out.new self.new) }
+        ensures refused { IfErr result (λ e. Fails F.log F.authors (write_of write) self.old
+            (quiet (base_at F.log F.authors self.old) (Some (declined refused)))
+            e out.new self.new) }
+        ensures edges { length out.new.edges ≡ length out.old.edges }
+    {
+        let Ok(mut front) = F::of(&self.right, alloc) else {
+            decline(write, Refused::NoMemory, None, out);
+            return Ok(());
+        };
+        match front.look(alloc, words) {
+            Ok(Found::Here) => {
+                answer(write, Some(refused), 0, Some(front), out);
+                Ok(())
+            }
+            Ok(Found::Moved(longer)) => {
+                self.stopped = true;
+                decline(write, Refused::Stopped, Some(longer), out);
+                Err(Refused::Stopped)
+            }
+            Err(_) => {
+                decline(write, Refused::NoMemory, None, out);
+                Ok(())
+            }
+        }
+    }
+
+    /// Appends the entry of a write that the log allows, all room made before, and sends each stage
+    /// shard its packet. Errors: `Stopped` where the log has gone on without the domain; `NoMemory`
+    /// where it was refused after the step, and then the write is answered and no packet is put
+    /// out. Both stop the domain.
+    fn accept(
+        &mut self,
+        alloc: Global,
+        words: &F::Words,
+        write: Write,
+        out: &mut Outbox<F>,
+    ) -> Result<(), Refused>
+        requires ready { IsClear out.old }
+        requires edges { length out.old.edges ≡ (F.log self.old.front).plan.stages }
+        requires running { self.old.stopped ≡ false }
+        requires of { IsFor (F.log self.old.front) (length self.old.next) (write_of write) }
+        requires rises { next_of write.session (F.authors self.old.front) ≤ write.number }
+        requires free { refusal_at (F.log self.old.front) (change_of write.entry) ≡ None }
+        requires key { HasKey (layout_of (F.log self.old.front).plan
+            (F.log self.old.front).base).key (change_of write.entry) }
+        ensures done { OnOk result (Goes F.log F.authors (write_of write) self.old
+            (appended (base_at F.log F.authors self.old) write.session write.number
+            (change_of write.entry)) out.new self.new) }
+        ensures refused { IfErr result (λ e. Fails F.log F.authors (write_of write) self.old
+            (appended (base_at F.log F.authors self.old) write.session write.number
+            (change_of write.entry)) e out.new self.new) }
+        ensures edges { length out.new.edges ≡ length out.old.edges }
+    {
+        let made = ready_for(
+            alloc,
+            self.plan,
+            self.table,
+            &mut self.shard,
+            &write.entry,
+            out,
+        );
+        let Ok(ready) = made else {
+            decline(write, Refused::NoMemory, None, out);
+            return Ok(());
+        };
+        let index = self.shard.len();
+        match F::append(
+            &mut self.right,
+            alloc,
+            words,
+            write.session,
+            write.number,
+            &write.entry,
+        ) {
+            Ok(Found::Here) => {
+                self.next[write.session] = write.number + 1;
+                self.shard.commit(ready.kept);
+                let told = tell(&self.right, alloc, index, ready.parts, out);
+                self.stopped = told.is_err();
+                answer_accepted(write, index, told, out)
+            }
+            Ok(Found::Moved(longer)) => {
+                self.stopped = true;
+                decline(write, Refused::Stopped, Some(longer), out);
+                Err(Refused::Stopped)
+            }
+            Err(_) => {
+                decline(write, Refused::NoMemory, None, out);
+                Ok(())
+            }
+        }
+    }
+
+    /// Takes a write. One whose number does not rise changes nothing and has no answer.
+    fn write(
+        &mut self,
+        alloc: Global,
+        words: &F::Words,
+        write: Write,
+        out: &mut Outbox<F>,
+    ) -> Result<(), Refused>
+        requires ready { IsClear out.old }
+        requires edges { length out.old.edges ≡ (F.log self.old.front).plan.stages }
+        requires running { self.old.stopped ≡ false }
+        requires of { IsFor (F.log self.old.front) (length self.old.next) (write_of write) }
+        ensures done { OnOk result (Goes F.log F.authors (write_of write) self.old
+            (step (base_at F.log F.authors self.old) (write_of write)) out.new self.new) }
+        ensures refused { IfErr result (λ e. Fails F.log F.authors (write_of write) self.old
+            (step (base_at F.log F.authors self.old) (write_of write)) e out.new self.new) }
+        ensures edges { length out.new.edges ≡ length out.old.edges }
+    {
+        if write.number < self.next[write.session] {
+            return Ok(());
+        }
+        let _table = self.plan.table(self.table);
+        match self.shard.check(&write.entry) {
+            Err(refused) => self.refuse(alloc, words, write, refused, out),
+            Ok(()) => self.accept(alloc, words, write, out),
+        }
+    }
+
+    /// Takes one message into a clear outbox with an edge to each stage shard of the plan.
+    ///
+    /// Where all goes well it does just what the step of the protocol says: a request is answered,
+    /// a marker is sent on, a write is answered and its packets are sent. A write may instead be
+    /// refused for memory, and nothing changes. Errors: `Stopped` where it had stopped, or where
+    /// its log has gone on without it, as the front in the reply shows; `NoMemory` where that was
+    /// refused for a packet, and then the reply to a write says that it was accepted. After an
+    /// error nothing is on the edges, and it has stopped. Cost: that of `BaseShard::check`,
+    /// `changes` and `commit` for a write, of `BaseShard::lookup` for a request.
+    pub fn receive(
+        &mut self,
+        alloc: Global,
+        words: &F::Words,
+        message: ToBase,
+        out: &mut Outbox<F>,
+    ) -> Result<(), Refused>
+        requires ready { IsClear out.old }
+        requires edges { length out.old.edges ≡ (F.log self.old.front).plan.stages }
+        requires of { IsFor (F.log self.old.front) (length self.old.next) (message_of message) }
+        ensures done { OnOk result (Goes F.log F.authors (message_of message) self.old
+            (step (base_at F.log F.authors self.old) (message_of message)) out.new self.new) }
+        ensures stopped { self.old.stopped ≡ true → (result ≡ Err Refused.Stopped)
+            × (self.new ≡ self.old) × IsAnswered (message_of message) Refused.Stopped out.new }
+        ensures refused { self.old.stopped ≡ false → IfErr result (λ e. Fails F.log F.authors
+            (message_of message) self.old (step (base_at F.log F.authors self.old)
+            (message_of message)) e out.new self.new) }
+        ensures edges { length out.new.edges ≡ length out.old.edges }
+    {
+        if self.stopped {
+            turn_away(message, out);
+            return Err(Refused::Stopped);
+        }
+        match message {
+            ToBase::Write(write) => self.write(alloc, words, write, out),
+            ToBase::Request { stage, request } => self.answer_request(alloc, stage, request, out),
+            ToBase::Marker(marker) => self.pass_marker(alloc, marker, out),
+        }
+    }
+}
