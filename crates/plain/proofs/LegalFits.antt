@@ -1,43 +1,25 @@
 -- In a legal history each entry of each log fits its table, so the fronts of a cut are lines of the plan.
-use Rattle.std.proofs.Common.{◌≡◌, ℕ, zero, suc, ◌==◌, ◌<◌, Bool, true, false, cond, List, [], ◌∷◌, ◌++◌, take, drop, length, get_or, refl, arith, ap, sym, subst, ◌∙◌, Option, Some, None}
+use Rattle.std.proofs.Common.{◌≡◌, ℕ, zero, suc, ◌<◌, Bool, true, List, [], ◌∷◌, ◌++◌, take, drop, length, get_or, refl, arith, ap, sym, subst, ◌∙◌, Option, Some, None}
 use Rattle.std.specs.List.{list_all}
-use Rattle.std.proofs.lemmas.Bool.Decides.{nat_tests}
 use Rattle.std.proofs.lemmas.List.FromFn.{length-range_with_len, get_or-range_with_len}
 use Rattle.row.specs.Bags.{Each}
 use Rattle.plan.specs.Layouts.{TableLayout, SideLayout, Layout, table_at}
 use Rattle.plan.specs.Facts.{IfThere, IsSide, Facts}
 use Rattle.model.specs.Logs.{fits}
-use Rattle.model.specs.Places.{base_at, layout_of, side_count, side_bases, right_bases, sources}
+use Rattle.model.specs.Places.{base_at, side_count, side_bases, right_bases, sources}
 use Rattle.model.specs.Queries.{Line}
-use Rattle.model.specs.Histories.{Item, write, read, fence, Lengths, entry_in, log_of}
+use Rattle.model.specs.Histories.{Item, Lengths, log_of}
 use Rattle.model.specs.Cuts.{line_of, fronts_of}
-use Rattle.model.specs.Legal.{IsLegalAfter, IsLegal}
+use Rattle.model.specs.Legal.{IsLegal}
+use Rattle.model.proofs.LegalLogs.{all_take, legal_fits}
 use Rattle.model.proofs.PlaceLaws.{base_layout}
 use Rattle.plain.specs.Fitting.{all_fit, right_fit, is_line}
-use Rattle.plan.proofs.Both.{and_both, and_left, and_right}
-use Rattle.plain.proofs.Fits.{all_append}
+use Rattle.plan.proofs.Both.{and_both}
 use Rattle.model.proofs.Lists.{each_of}
 
 -- each entry of the base shard's log fits the table
 abbrev pub fits_log : TableLayout → List Item → ℕ → Bool
 fits_log t h b = list_all (fits t) (log_of b h)
-
-pub legal_fits : (p : Layout) (n b : ℕ) (past h : List Item) → IsLegalAfter p n past h → fits_log (layout_of p b) h b ≡ true
-legal_fits p n b past [] legal = refl
-legal_fits p n b past (write s m c e ∷ rest) legal = all_append (fits (layout_of p b)) (entry_in b (write s m c e)) (log_of b rest) (step (c == b) refl) (legal_fits p n b (past ++ write s m c e ∷ []) rest legal.1)
-  where
-    step : (o : Bool) → (c == b) ≡ o → list_all (fits (layout_of p b)) (cond o (e ∷ []) []) ≡ true
-    step true is =
-        let same : c ≡ b = grind (arith, nat_tests) in
-        and_both (fits (layout_of p b) e) true (subst (λ (x : ℕ). fits (layout_of p x) e ≡ true) same legal.0.fits) refl
-    step false is = refl
-legal_fits p n b past (read s i k rows cut ∷ rest) legal = legal_fits p n b (past ++ read s i k rows cut ∷ []) rest legal.1
-legal_fits p n b past (fence s own floors ∷ rest) legal = legal_fits p n b (past ++ fence s own floors ∷ []) rest legal.1
-
-all_take : {X : Type 0} (q : X → Bool) (n : ℕ) (xs : List X) → list_all q xs ≡ true → list_all q (take n xs) ≡ true
-all_take q zero xs h = refl
-all_take q (suc n) [] h = refl
-all_take q (suc n) (x ∷ xs) h = and_both (q x) (list_all q (take n xs)) (and_left (q x) (list_all q xs) h) (all_take q n xs (and_right (q x) (list_all q xs) h))
 
 line_fits : (t : TableLayout) (h : List Item) (bs ns : List ℕ) → Each (λ b. fits_log t h b ≡ true) bs → all_fit t (line_of h bs ns) ≡ true
 line_fits t h [] ns each = refl

@@ -303,27 +303,20 @@ there_found {X} of bs P single (y ∷ ys) x k lt is hx all e = step (bytes_eq (o
     step false same rest = let r = later k lt is same in rest r.0 r.1 r.2
 
 -- ---- the laws
-pub domain_law : (p : Layout) → Facts p → (bs : List ℕ) (x : DomainId) → (domain_named p bs ≡ Some x) ↔ (Contains (domains p) x × (domain_text p x ≡ bs))
-domain_law p h bs x = (there, found)
+named_law : {X : Type 0} (of : X → List ℕ) (bs : List ℕ) (P : X → Type 0) → ((x y : X) → P x → P y → of x ≡ of y → x ≡ y) → (xs : List X) → Each P xs → (named : Option X) → named ≡ first_with of bs xs → (x : X) → (named ≡ Some x) ↔ (Contains xs x × (of x ≡ bs))
+named_law {X} of bs P single xs all named first x = (there, found)
   where
-    there : domain_named p bs ≡ Some x → Contains (domains p) x × (domain_text p x ≡ bs)
-    there e = let r = found_there (domain_text p) bs (domains p) x (sym (named_first p bs (domains p)) ∙ e) in ((r.0, r.1, r.2), r.3)
+    there : named ≡ Some x → Contains xs x × (of x ≡ bs)
+    there e = let r = found_there of bs xs x (sym first ∙ e) in ((r.0, r.1, r.2), r.3)
 
-    found : Contains (domains p) x × (domain_text p x ≡ bs) → domain_named p bs ≡ Some x
-    found r =
-        let has : HasDomain p x = each_there (HasDomain p) (domains p) x r.0.0 r.0.1 r.0.2 (all_domains p) in
-        named_first p bs (domains p) ∙ there_found (domain_text p) bs (HasDomain p) (one_text p h) (domains p) x r.0.0 r.0.1 r.0.2 has (all_domains p) r.1
+    found : Contains xs x × (of x ≡ bs) → named ≡ Some x
+    found r = first ∙ there_found of bs P single xs x r.0.0 r.0.1 r.0.2 (each_there P xs x r.0.0 r.0.1 r.0.2 all) all r.1
+
+pub domain_law : (p : Layout) → Facts p → (bs : List ℕ) (x : DomainId) → (domain_named p bs ≡ Some x) ↔ (Contains (domains p) x × (domain_text p x ≡ bs))
+domain_law p h bs = named_law (domain_text p) bs (HasDomain p) (one_text p h) (domains p) (all_domains p) (domain_named p bs) (named_first p bs (domains p))
 
 pub edge_law : (p : Layout) → Facts p → (bs : List ℕ) (x : Edge) → (edge_named p bs ≡ Some x) ↔ (Contains (edges p) x × (edge_text p x ≡ bs))
-edge_law p h bs x = (there, found)
-  where
-    there : edge_named p bs ≡ Some x → Contains (edges p) x × (edge_text p x ≡ bs)
-    there e = let r = found_there (edge_text p) bs (edges p) x (sym (edge_first p bs (edges p)) ∙ e) in ((r.0, r.1, r.2), r.3)
-
-    found : Contains (edges p) x × (edge_text p x ≡ bs) → edge_named p bs ≡ Some x
-    found r =
-        let has : HasEnds p x = each_there (HasEnds p) (edges p) x r.0.0 r.0.1 r.0.2 (all_edges p h) in
-        edge_first p bs (edges p) ∙ there_found (edge_text p) bs (HasEnds p) (one_edge_text p h) (edges p) x r.0.0 r.0.1 r.0.2 has (all_edges p h) r.1
+edge_law p h bs = named_law (edge_text p) bs (HasEnds p) (one_edge_text p h) (edges p) (all_edges p h) (edge_named p bs) (edge_first p bs (edges p))
 
 -- of an answer that may be want of memory
 pub domain_answer : (p : Layout) → Facts p → (bs : List ℕ) (r : Result (Option DomainId) AllocError) → IfOk r (λ d. d ≡ domain_named p bs) → IfOk r (IsDomainWith p bs)

@@ -58,10 +58,7 @@ impl Draft {
     pub fn right_is_small(&self) -> bool
         ensures { result ≡ if_there side_is_small self.now.right }
     {
-        match &self.right {
-            None => true,
-            Some(right) => right.is_small(),
-        }
+        self.right.iter().all(|right| right.is_small())
     }
 
     fn views_are_small(&self) -> bool
@@ -116,16 +113,7 @@ impl Draft {
     fn sides_are_known(&self) -> bool
         ensures { result ≡ sides_are_known self.now }
     {
-        self.side_is_known(&self.left) && self.right_is_known()
-    }
-
-    fn right_is_known(&self) -> bool
-        ensures { result ≡ if_there (side_is_known self.now) self.now.right }
-    {
-        match &self.right {
-            None => true,
-            Some(right) => self.side_is_known(right),
-        }
+        self.side_is_known(&self.left) && self.right.iter().all(|right| self.side_is_known(right))
     }
 
     /// Whether the side's table is there, and the columns that it names.
@@ -220,16 +208,7 @@ impl Draft {
     fn values_agree(&self) -> bool
         ensures { result ≡ values_agree self.now }
     {
-        self.side_agrees(&self.left) && self.right_agrees()
-    }
-
-    fn right_agrees(&self) -> bool
-        ensures { result ≡ if_there (side_agrees self.now) self.now.right }
-    {
-        match &self.right {
-            None => true,
-            Some(right) => self.side_agrees(right),
-        }
+        self.side_agrees(&self.left) && self.right.iter().all(|right| self.side_agrees(right))
     }
 
     /// Whether each value that the side compares a cell with is of the column's kind.

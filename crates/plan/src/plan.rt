@@ -142,23 +142,14 @@ impl Plan {
         requires { IsPlan draft }
         ensures { result ≡ draft }
     {
-        let Draft {
-            tables,
-            stages,
-            left,
-            right,
-            aggregate,
-            cap,
-            views,
-        } = draft;
         Plan {
-            tables,
-            stages,
-            left,
-            right,
-            aggregate,
-            cap,
-            views,
+            tables: draft.tables,
+            stages: draft.stages,
+            left: draft.left,
+            right: draft.right,
+            aggregate: draft.aggregate,
+            cap: draft.cap,
+            views: draft.views,
         }
     }
 

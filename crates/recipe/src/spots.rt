@@ -55,24 +55,26 @@ pub(crate) fn limit_spot(draft: &Draft) -> Spot {
     Spot::new(Part::Recipe, "view", "1 to 4 views")
 }
 
-fn table_limit(part: Part, table: &Table) -> Spot {
-    if !is_name(table.name()) {
+// The name, where it has not the form of one, or the shards, where they are not 1 to 8, or else the
+// other spot.
+fn name_or_shards(part: Part, name: &str, shards: usize, other: Spot) -> Spot {
+    if !is_name(name) {
         Spot::new(part, "name", NAME)
-    } else if !is_from(1, 8, table.shards()) {
+    } else if !is_from(1, 8, shards) {
         Spot::new(part, "shards", "1 to 8 shards")
     } else {
-        Spot::new(part, "columns", COLUMN_NAMES)
+        other
     }
 }
 
+fn table_limit(part: Part, table: &Table) -> Spot {
+    let columns = Spot::new(part, "columns", COLUMN_NAMES);
+    name_or_shards(part, table.name(), table.shards(), columns)
+}
+
 fn view_limit(part: Part, view: &ViewPlan) -> Spot {
-    if !is_name(view.name()) {
-        Spot::new(part, "name", NAME)
-    } else if !is_from(1, 8, view.shards()) {
-        Spot::new(part, "shards", "1 to 8 shards")
-    } else {
-        Spot::new(part, "cap", "1 to 65536")
-    }
+    let cap = Spot::new(part, "cap", "1 to 65536");
+    name_or_shards(part, view.name(), view.shards(), cap)
 }
 
 /// Where a name is not its own.

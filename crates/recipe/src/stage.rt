@@ -1,12 +1,12 @@
 //! Reading the stage of a document, and its conditions.
 ghost use Rattle.std.specs.Prelude.{◌≡◌, [], None, codes, option_map};
 ghost use Rattle.std.specs.Option.{option_copied};
-ghost use Rattle.row.specs.Cells.{datum_of};
-ghost use Rattle.toml.specs.View.{view, items_view};
-ghost use Rattle.toml.specs.Data.{get};
 ghost use Rattle.recipe.specs.Errors.{Gives};
 ghost use Rattle.recipe.specs.Words.{columns_of};
+ghost use Rattle.toml.specs.Data.{get};
+ghost use Rattle.toml.specs.View.{view, items_view};
 ghost use Rattle.recipe.specs.Fields.{each, needed, optional, op_at, value_at, condition_at, conditions_at, word_at, aggregate_of, right_conditions, right_columns, told_columns, side_of, right_side, stage_at};
+ghost use Rattle.row.specs.Cells.{datum_of};
 
 use crate::error::{Part, PlanError, Spot};
 use crate::fields::{list_in, paired, table_in, text, text_in, whole, whole_or};
