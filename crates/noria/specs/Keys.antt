@@ -1,6 +1,6 @@
--- How the key of a read is read.
+-- How the key of a read or a delete is read.
 use Rattle.std.specs.Prelude.{ℕ, List, Option, Some, None}
-use Rattle.plan.specs.Layouts.{Layout, table_at, column_at, view_at, view_named}
+use Rattle.plan.specs.Layouts.{Layout, table_at, column_at, table_named, view_at, view_named}
 use Rattle.plan.specs.declared.kinds.Kind.{Kind}
 use Rattle.plan.specs.declared.kinds.Kind.TheVariants.{Text}
 
@@ -12,3 +12,12 @@ kind_at p (Some i) = (column_at (table_at p p.left.table) (view_at p i).key).kin
 -- of the view of this name
 abbrev pub kind_of_key : Layout → List ℕ → Kind
 kind_of_key p view = kind_at p (view_named p view)
+
+-- the kind of the key column of the table at the place; of no table it is a text
+abbrev pub kind_in : Layout → Option ℕ → Kind
+kind_in p None = Text
+kind_in p (Some t) = (column_at (table_at p t) (table_at p t).key).kind
+
+-- of the table of this name
+abbrev pub kind_of_table : Layout → List ℕ → Kind
+kind_of_table p table = kind_in p (table_named p table)

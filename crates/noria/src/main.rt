@@ -6,6 +6,7 @@ mod fault;
 mod reads;
 mod runner;
 mod texts;
+mod writes;
 
 use crate::command::command;
 use crate::fault::Fault;

@@ -2,16 +2,14 @@
 ghost use Rattle.std.specs.Prelude.{◌≡◌};
 
 use crate::fault::Fault;
-use crate::reads::{read, try_read, write_rows};
+use crate::reads::{look, write_found};
 use crate::texts::Texts;
+use crate::writes::{Words, write, write_accepted};
 use book::book::Opened;
 use book::law::Naming;
-use plan::kinds::Kind;
 use plan::plan::Plan;
 use recipe::recipe::from_bytes;
 use row::refused::Refused;
-use row::row::Row;
-use script::cell::value_of;
 use script::command::Command;
 use script::script::{Call, read_script};
 use std::alloc::Global;
@@ -19,8 +17,7 @@ use std::io::{BufWriter, Write};
 use std::marker::Brand;
 use std::sync::Wait;
 use std::thread::Threads;
-use system::read::Found;
-use system::session::{Accepted, Session};
+use system::session::Session;
 use system::system::System;
 
 /// Reads and checks the recipe and then the script of these names, starts the recipe's plan, runs
@@ -103,55 +100,29 @@ fn answer_call<J: Naming, R: Wait, O: Write>(
 ) -> Result<(), Fault> {
     let written = match command {
         Command::Insert { table, cells } => {
-            match insert(rt, alloc, session, table.as_str(), cells) {
-                Ok(Accepted { shard, index, .. }) => {
-                    writeln!(out, "accepted {table}.{shard} {index}")
-                }
-                Err(refused) => writeln!(out, "{}", Fault::Refused(refused)),
-            }
+            let answer = write(rt, alloc, session, table.as_str(), Words::Insert(cells));
+            write_accepted(table.as_str(), answer, out)
+        }
+        Command::Update { table, cells } => {
+            let answer = write(rt, alloc, session, table.as_str(), Words::Update(cells));
+            write_accepted(table.as_str(), answer, out)
+        }
+        Command::Delete { table, key } => {
+            let answer = write(rt, alloc, session, table.as_str(), Words::Delete(key));
+            write_accepted(table.as_str(), answer, out)
         }
         Command::Fence => match session.fence(rt, alloc) {
             Ok(()) => writeln!(out, "fenced"),
             Err(refused) => writeln!(out, "{}", Fault::Refused(refused)),
         },
-        Command::Try { view, key } => match try_read(alloc, session, view.as_str(), key) {
-            Ok(Found::Hit(answer)) => write_rows(&answer, out),
-            Ok(Found::Miss) => writeln!(out, "miss"),
-            Err(refused) => writeln!(out, "{}", Fault::Refused(refused)),
-        },
+        Command::Try { view, key } => {
+            let found = look(alloc, session, false, view.as_str(), key);
+            write_found(found, out)
+        }
         Command::Read { view, key } | Command::Closing { view, key } => {
-            match read(alloc, session, view.as_str(), key) {
-                Ok(answer) => write_rows(&answer, out),
-                Err(refused) => writeln!(out, "{}", Fault::Refused(refused)),
-            }
+            let found = look(alloc, session, true, view.as_str(), key);
+            write_found(found, out)
         }
     };
     written.map_err(|_| Fault::Refused(Refused::CannotWrite))
-}
-
-fn insert<J: Naming, R: Wait>(
-    rt: &R,
-    alloc: Global,
-    session: &mut Session<J>,
-    table: &str,
-    cells: Vec<String>,
-) -> Result<Accepted, Refused> {
-    let row = row_of_words(alloc, session.plan(), table, cells)?;
-    session.insert(rt, alloc, table, row)
-}
-
-// Each word is read by its column; where there is no such column it is a text.
-fn row_of_words(
-    alloc: Global,
-    plan: &Plan,
-    table: &str,
-    words: Vec<String>,
-) -> Result<Row, Refused> {
-    let table = plan.table_named(table).map(|place| plan.table(place));
-    let mut cells = Vec::new(alloc);
-    for word in words {
-        let kind = table.and_then(|table| table.kind(cells.len()));
-        cells.push(value_of(alloc, kind.unwrap_or(Kind::Text), word)?)?;
-    }
-    Ok(Row::new(cells))
 }

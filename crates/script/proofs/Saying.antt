@@ -2,32 +2,41 @@
 use Rattle.std.proofs.Common.{◌≡◌, ◌==◌, cond, ℕ, ◌+◌, ◌<◌, inl, inr, List, [], ◌∷◌, ◌++◌, length, Option, Some, None, refl, ap, sym, subst, ◌∙◌, arith, append_assoc}
 use Rattle.std.proofs.lemmas.List.{append-nil, length-append}
 use Rattle.script.specs.Words.{IsLine}
-use Rattle.script.specs.Commands.{Action, insert, fence, try, read, closing, Asks}
+use Rattle.script.specs.Commands.{Action, insert, update, delete, fence, try, read, closing, Asks}
 use Rattle.script.specs.Scripts.{IsComment, Says, Numbered, call_at, IsScript, IsFault, IsFirstFault}
 use Rattle.script.proofs.Scan.{line_once}
 
 -- no words ask for nothing
 asks_some : (action : Action) → Asks [] action → ⊥
 asks_some (insert table cells) a = let h = a.0 in cc
+asks_some (update table cells) a = let h = a.0 in cc
+asks_some (delete table key) a = cc a
 asks_some fence a = cc a
 asks_some (try view key) a = cc a
 asks_some (read view key) a = cc a
 asks_some (closing view key) a = cc a
 
--- names of commands have lengths of their own
+-- names of commands have first bytes of their own
+abbrev first_byte : List ℕ → ℕ
+first_byte [] = 0
+first_byte (b ∷ bs) = b
+
 abbrev named : ℕ → (x y : List ℕ) → (ys : List (List ℕ)) → Action
-named n x y ys = cond (n == 6) (insert x (y ∷ ys)) (cond (n == 3) (try x y) (cond (n == 4) (read x y) (closing x y)))
+named b x y ys = cond (b == 105) (insert x (y ∷ ys)) (cond (b == 117) (update x (y ∷ ys)) (cond (b == 100) (delete x y) (cond (b == 116) (try x y) (cond (b == 114) (read x y) (closing x y)))))
 
 -- the action that words of some form ask for
 abbrev asked : List (List ℕ) → Action
 asked [] = fence
 asked (name ∷ []) = fence
 asked (name ∷ x ∷ []) = fence
-asked (name ∷ x ∷ y ∷ ys) = named (length name) x y ys
+asked (name ∷ x ∷ y ∷ ys) = named (first_byte name) x y ys
 
 asks_asked : (words : List (List ℕ)) (a : Action) → Asks words a → asked words ≡ a
 asks_asked words (insert table []) is = absurd (omega (arith, is.1))
 asks_asked words (insert table (cell ∷ cells)) is = ap asked is.0
+asks_asked words (update table []) is = absurd (omega (arith, is.1))
+asks_asked words (update table (cell ∷ cells)) is = ap asked is.0
+asks_asked words (delete table key) is = ap asked is
 asks_asked words fence is = ap asked is
 asks_asked words (try view key) is = ap asked is
 asks_asked words (read view key) is = ap asked is

@@ -3,10 +3,13 @@ use Rattle.std.specs.Prelude.{◌≡◌, ℕ, ◌<◌, List, [], ◌∷◌, leng
 use Rattle.script.specs.declared.command.Command.{Command}
 use Rattle.script.specs.declared.command.Command.TheVariants as code
 
--- a command: a row, cell by cell, for the table; a fence; or rows of a view by their key, where
--- they are shown, at this place, or at the end
+-- a command: a row, cell by cell, for the table, new or in place of that of its key; a key of the
+-- table whose row goes; a fence; or rows of a view by their key, where they are shown, at this place,
+-- or at the end
 pub data Action : Type 0 where
   insert : (table : List ℕ) (cells : List (List ℕ)) → Action
+  update : (table : List ℕ) (cells : List (List ℕ)) → Action
+  delete : (table key : List ℕ) → Action
   fence : Action
   try : (view key : List ℕ) → Action
   read : (view key : List ℕ) → Action
@@ -15,15 +18,19 @@ pub data Action : Type 0 where
 -- the program's command as such
 abbrev pub action_of : Command → Action
 action_of (code.Insert table cells) = insert (string_bytes table) (map string_bytes cells.items)
+action_of (code.Update table cells) = update (string_bytes table) (map string_bytes cells.items)
+action_of (code.Delete table key) = delete (string_bytes table) (string_bytes key)
 action_of code.Fence = fence
 action_of (code.Try view key) = try (string_bytes view) (string_bytes key)
 action_of (code.Read view key) = read (string_bytes view) (string_bytes key)
 action_of (code.Closing view key) = closing (string_bytes view) (string_bytes key)
 
--- the forms of commands, each after its name: `insert TABLE CELL..`, `fence`, `try VIEW KEY`,
--- `read VIEW KEY`, `closing VIEW KEY`
+-- the forms of commands, each after its name: `insert TABLE CELL..`, `update TABLE CELL..`,
+-- `delete TABLE KEY`, `fence`, `try VIEW KEY`, `read VIEW KEY`, `closing VIEW KEY`
 abbrev pub Asks : List (List ℕ) → Action → Type 0
 Asks words (insert table cells) = (words ≡ codes "insert" ∷ table ∷ cells) × (0 < length cells)
+Asks words (update table cells) = (words ≡ codes "update" ∷ table ∷ cells) × (0 < length cells)
+Asks words (delete table key) = words ≡ codes "delete" ∷ table ∷ key ∷ []
 Asks words fence = words ≡ codes "fence" ∷ []
 Asks words (try view key) = words ≡ codes "try" ∷ view ∷ key ∷ []
 Asks words (read view key) = words ≡ codes "read" ∷ view ∷ key ∷ []

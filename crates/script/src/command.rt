@@ -7,6 +7,10 @@ ghost use Rattle.script.specs.Commands.{Action, action_of, Asks};
 pub enum Command {
     /// `insert TABLE CELL..`: a row, of at least one cell, for the table.
     Insert { table: String, cells: Vec<String> },
+    /// `update TABLE CELL..`: a row, of at least one cell, in place of the row of its key.
+    Update { table: String, cells: Vec<String> },
+    /// `delete TABLE KEY`: the row of the key goes.
+    Delete { table: String, key: String },
     /// `fence`: the session's floors raised to what it has seen.
     Fence,
     /// `try VIEW KEY`: the rows of the key in the view, where they are shown.
@@ -28,52 +32,50 @@ impl Command {
     {
         let name = words.remove(0);
         match name.as_str() {
-            "insert" => Command::insert(words),
+            "insert" => table_and_cells(words).map(|(table, cells)| Command::Insert {
+                table,
+                cells,
+            }),
+            "update" => table_and_cells(words).map(|(table, cells)| Command::Update {
+                table,
+                cells,
+            }),
+            "delete" => name_and_key(words).map(|(table, key)| Command::Delete { table, key }),
             "fence" if words.is_empty() => Some(Command::Fence),
-            "try" => {
-                let (view, key) = view_and_key(words)?;
-                Some(Command::Try { view, key })
-            }
-            "read" => {
-                let (view, key) = view_and_key(words)?;
-                Some(Command::Read { view, key })
-            }
-            "closing" => {
-                let (view, key) = view_and_key(words)?;
-                Some(Command::Closing { view, key })
-            }
+            "try" => name_and_key(words).map(|(view, key)| Command::Try { view, key }),
+            "read" => name_and_key(words).map(|(view, key)| Command::Read { view, key }),
+            "closing" => name_and_key(words).map(|(view, key)| Command::Closing { view, key }),
             _ => None,
         }
     }
-
-    fn insert(mut operands: Vec<String>) -> Option<Command>
-        ensures some { IfSome result (λ command.
-            Asks (codes "insert" ∷ map string_bytes operands.items) (action_of command)) }
-        ensures none { IsNone result → (action : Action)
-            → ¬ Asks (codes "insert" ∷ map string_bytes operands.items) action }
-    {
-        if operands.len() < 2 {
-            return None;
-        }
-        let table = operands.remove(0);
-        Some(Command::Insert {
-            table,
-            cells: operands,
-        })
-    }
 }
 
-// The operands `VIEW KEY`, where they are just two.
-fn view_and_key(mut operands: Vec<String>) -> Option<(String, String)>
+// The operands `TABLE CELL..`, where there is at least one cell.
+fn table_and_cells(mut operands: Vec<String>) -> Option<(String, Vec<String>)>
+    ensures some { IfSome result (λ found. map string_bytes operands.items
+        ≡ string_bytes found.0 ∷ map string_bytes found.1.items) }
+    ensures cells { IfSome result (λ found. 0 < length found.1.items) }
+    ensures none { IsNone result → (table : List ℕ) (cells : List (List ℕ)) → 0 < length cells
+        → map string_bytes operands.items ≢ table ∷ cells }
+{
+    if operands.len() < 2 {
+        return None;
+    }
+    let table = operands.remove(0);
+    Some((table, operands))
+}
+
+// The operands `VIEW KEY` or `TABLE KEY`, where they are just two.
+fn name_and_key(mut operands: Vec<String>) -> Option<(String, String)>
     ensures some { IfSome result (λ found. map string_bytes operands.items
         ≡ string_bytes found.0 ∷ string_bytes found.1 ∷ []) }
-    ensures none { IsNone result → (view key : List ℕ)
-        → map string_bytes operands.items ≢ view ∷ key ∷ [] }
+    ensures none { IsNone result → (name key : List ℕ)
+        → map string_bytes operands.items ≢ name ∷ key ∷ [] }
 {
     if operands.len() != 2 {
         return None;
     }
     let key = operands.remove(1);
-    let view = operands.remove(0);
-    Some((view, key))
+    let name = operands.remove(0);
+    Some((name, key))
 }

@@ -3,17 +3,16 @@ use Rattle.std.proofs.Common.{◌≡◌, ◌≢◌, ◌⊎◌, ℕ, zero, suc, �
 use Rattle.std.proofs.lemmas.Bool.Decides.{eqb_tells}
 use Rattle.std.proofs.lemmas.Option.{slice_get_within}
 use Rattle.std.proofs.lemmas.List.{get_or-set_other, length-set, length-replicate}
-use Rattle.std.proofs.lemmas.List.Concat.{flat_map-append}
 use Rattle.std.proofs.lemmas.Grind.{get_or-set_at}
 use mathlib.Core.List.{IsPrefix}
 use Rattle.plan.specs.Layouts.{Layout, table_named}
 use Rattle.model.specs.Refusals.{write_refusal}
 use Rattle.model.specs.Logs.{Change}
 use Rattle.model.specs.Places.{base_count, sources}
-use Rattle.model.specs.Histories.{Item, write, Lengths, Floors, floor_at, entry_in, author_in, log_of, authors_of}
+use Rattle.model.specs.Histories.{Item, write, Lengths, Floors, floor_at, log_of, authors_of}
 use Rattle.model.specs.Cuts.{IsAtMost}
 use Rattle.book.specs.Replies.{IsAfter}
-use Rattle.model.proofs.Growth.{authors_push}
+use Rattle.model.proofs.Growth.{authors_grow, authors_push, log_grows}
 use Rattle.model.proofs.Prefixes.{prefix_self, prefix_get, prefix_length}
 use Rattle.book.proofs.Fronts.{length_authors}
 use Rattle.model.proofs.Growth.{at_most_trans, at_most_none}
@@ -22,13 +21,7 @@ use Rattle.view.specs.Snapshots.{Snapshot}
 use Rattle.system.specs.Inserts.{base_of, first_of, stolen_refusal, call_refusal, IsTaken, IsAnswer, IsUntaken, Declines, untaken}
 use Rattle.system.specs.Callers.{Caller, IsWrote, accepted_at, whole_cut, IsCaller}
 
--- ---- logs of a longer history
-pub log_grows : (b : ℕ) (h w : List Item) → IsPrefix h w → IsPrefix (log_of b h) (log_of b w)
-log_grows b h w p = (log_of b p.0, sym (ap (log_of b) (sym p.1) ∙ flat_map-append (entry_in b) h p.0))
-
-pub authors_grow : (b : ℕ) (h w : List Item) → IsPrefix h w → IsPrefix (authors_of b h) (authors_of b w)
-authors_grow b h w p = (authors_of b p.0, sym (ap (authors_of b) (sym p.1) ∙ flat_map-append (author_in b) h p.0))
-
+-- ---- what was written, in a longer history
 pub wrote_later : (h w : List Item) (s b k : ℕ) → IsPrefix h w → IsWrote h s b k → IsWrote w s b k
 wrote_later h w s b k p x = record { number = x.number; author = prefix_get (authors_of b h) (authors_of b w) k (record { session = s; number = x.number }) (authors_grow b h w p) x.author }
 
@@ -75,18 +68,18 @@ after_beyond a i b k n h x lt =
     omega (arith, lt, x.place, prefix_length (log_of b a) (log_of b (a ++ x.between)) (log_grows b a (a ++ x.between) grown))
 
 -- ---- the session afterwards
-pub caller_later : (p : Layout) (c : Caller) (m : ℕ) (t : Bool) (h : List Item) (v : Snapshot) → IsCaller p c → IsPrefix c.seen h → IsCaller p (record { session = c.session; number = m; stolen = t; seen = h; accepted = c.accepted; floors = c.floors; shown = v })
+pub caller_later : {counted : ℕ} → (p : Layout) (c : Caller) (m : ℕ) (t : Bool) (h : List Item) (v : Snapshot) → IsCaller p c → IsPrefix c.seen h → IsCaller p (record { session = c.session; number = m; answered = counted; stolen = t; seen = h; accepted = c.accepted; floors = c.floors; shown = v })
 caller_later p c m t h v x grown = record {
   width = x.width;
   own = λ b k is. wrote_later c.seen h c.session b k grown (x.own b k is);
   floors = λ i j lv lj. at_most_trans (floor_at c.floors i j) (whole_cut p c.seen) (whole_cut p h) (x.floors i j lv lj) (whole_later p c.seen h grown);
 }
 
-pub caller_taken : (p : Layout) (c : Caller) (m b k : ℕ) (e : Change) (h : List Item) → IsCaller p c → b < base_count p → IsAfter c.seen (write c.session c.number b e) b k h
-    → IsCaller p (record { session = c.session; number = m; stolen = c.stolen; seen = h; accepted = slice_set c.accepted b (Some k); floors = c.floors; shown = c.shown })
+pub caller_taken : {counted : ℕ} → (p : Layout) (c : Caller) (m b k : ℕ) (e : Change) (h : List Item) → IsCaller p c → b < base_count p → IsAfter c.seen (write c.session c.number b e) b k h
+    → IsCaller p (record { session = c.session; number = m; answered = counted; stolen = c.stolen; seen = h; accepted = slice_set c.accepted b (Some k); floors = c.floors; shown = c.shown })
 caller_taken p c m b k e h x lt after =
     let grown = after_grows c.seen (write c.session c.number b e) b k h after in
-    let later = caller_later p c m c.stolen h c.shown x grown in
+    let later = caller_later {counted = 0} p c m c.stolen h c.shown x grown in
     record {
       width = length-set c.accepted b (Some k) ∙ x.width;
       own = λ d i is. step d i is (eqb_tells d b);
@@ -103,7 +96,7 @@ caller_taken p c m b k e h x lt after =
         wrote_later c.seen h c.session d i grown (x.own d i (sym (get_or-set_other c.accepted b d (Some k) None f.1) ∙ is))
 
 pub taken : (p : Layout) (c : Caller) (b k : ℕ) (e : Change) (h : List Item) → IsCaller p c → IsAfter c.seen (write c.session c.number b e) b k h
-    → IsTaken c (record { session = c.session; number = c.number + 1; stolen = c.stolen; seen = h; accepted = slice_set c.accepted b (Some k); floors = c.floors; shown = c.shown }) b e k
+    → IsTaken c (record { session = c.session; number = c.number + 1; answered = c.answered; stolen = c.stolen; seen = h; accepted = slice_set c.accepted b (Some k); floors = c.floors; shown = c.shown }) b e k
 taken p c b k e h x after = record {
   item = after;
   greatest = λ i is. after_beyond c.seen (write c.session c.number b e) b k i h after (wrote_within c.seen c.session b i (x.own b i is));
@@ -125,7 +118,7 @@ none_at (suc n) zero = refl
 none_at (suc n) (suc b) = none_at n b
 
 -- a session that has made no call
-pub caller_new : (p : Layout) (s : ℕ) (h : List Item) (accepted : List (Option ℕ)) (floors : Floors) (shown : Snapshot) → accepted ≡ replicate (base_count p) None → ((v j : ℕ) → floor_at floors v j ≡ []) → IsCaller p (record { session = s; number = 0; stolen = false; seen = h; accepted = accepted; floors = floors; shown = shown })
+pub caller_new : {counted : ℕ} → (p : Layout) (s : ℕ) (h : List Item) (accepted : List (Option ℕ)) (floors : Floors) (shown : Snapshot) → accepted ≡ replicate (base_count p) None → ((v j : ℕ) → floor_at floors v j ≡ []) → IsCaller p (record { session = s; number = 0; answered = counted; stolen = false; seen = h; accepted = accepted; floors = floors; shown = shown })
 caller_new p s h accepted floors shown is zeros = record {
   width = ap length is ∙ length-replicate (base_count p) None;
   own = λ b k at. absurd (cc (sym (none_at (base_count p) b) ∙ (ap (λ l. accepted_at l b) (sym is) ∙ at)));

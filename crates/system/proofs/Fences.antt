@@ -11,7 +11,7 @@ use Rattle.model.specs.Cuts.{IsAtMost}
 use Rattle.book.specs.Fronts.{FrontView, IsReached}
 use Rattle.model.specs.Legal.{EachShard, IsOwn, IsPast}
 use Rattle.book.specs.Pages.{IsAdded}
-use Rattle.book.specs.Sessions.{own_word}
+use Rattle.book.specs.Sessions.{own_word, own_items}
 use Rattle.model.specs.Tables.{even_floors}
 use Rattle.model.proofs.Prefixes.{prefix_trans, prefix_length}
 use Rattle.model.proofs.Growth.{at_most_trans}
@@ -19,7 +19,8 @@ use Rattle.model.proofs.CutLaws.{even_at, same_in}
 use Rattle.view.specs.Snapshots.{Snapshot, IsLater}
 use Rattle.system.specs.Callers.{Caller, accepted_at, whole_cut, IsCaller}
 use Rattle.system.specs.Fences.{place_of, own_places, IsFloored, IsFlooredByShown, IsCovering, AreLonger, AreShown, IsFenced}
-use Rattle.system.proofs.Callers.{log_grows, wrote_later, wrote_within, cut_mono, caller_later}
+use Rattle.model.proofs.Growth.{log_grows}
+use Rattle.system.proofs.Callers.{wrote_later, wrote_within, cut_mono, caller_later}
 
 abbrev pub bases_of : List FrontView → List ℕ
 bases_of fs = map (λ (f : FrontView). f.base) fs
@@ -136,10 +137,10 @@ floored_by_shown p c fs even is shown v j lv lj s i ls li =
 floor_whole : (p : Layout) (h : List Item) (floors : Floors) (fs : List FrontView) → floors ≡ even_floors p (lens_of fs) → bases_of fs ≡ sources p → Each (IsReached h) fs → EachShard p (λ v j. IsAtMost (floor_at floors v j) (whole_cut p h))
 floor_whole p h floors fs even is each v j lv lj = subst (λ (d : Lengths). IsAtMost d (whole_cut p h)) (sym (ap (λ (x : Floors). floor_at x v j) even ∙ even_at p (lens_of fs) v j lv lj)) (whole_reached p h fs is each)
 
-pub caller_fenced : (p : Layout) (c : Caller) (m : ℕ) (h : List Item) (floors : Floors) (fs : List FrontView) (v : Snapshot) → IsCaller p c → IsPrefix c.seen h → floors ≡ even_floors p (lens_of fs) → bases_of fs ≡ sources p → Each (IsReached h) fs
-    → IsCaller p (record { session = c.session; number = m; stolen = c.stolen; seen = h; accepted = c.accepted; floors = floors; shown = v })
+pub caller_fenced : {counted : ℕ} → (p : Layout) (c : Caller) (m : ℕ) (h : List Item) (floors : Floors) (fs : List FrontView) (v : Snapshot) → IsCaller p c → IsPrefix c.seen h → floors ≡ even_floors p (lens_of fs) → bases_of fs ≡ sources p → Each (IsReached h) fs
+    → IsCaller p (record { session = c.session; number = m; answered = counted; stolen = c.stolen; seen = h; accepted = c.accepted; floors = floors; shown = v })
 caller_fenced p c m h floors fs v x grown even is each =
-    let later = caller_later p c m c.stolen h v x grown in
+    let later = caller_later {counted = 0} p c m c.stolen h v x grown in
     record { width = later.width; own = later.own; floors = floor_whole p h floors fs even is each }
 
 pub each_reached_later : (h w : List Item) (fs : List FrontView) → IsPrefix h w → Each (IsReached h) fs → Each (IsReached w) fs
@@ -174,14 +175,15 @@ longer_next fs i f g gs small is e longer le = rw (take_more fs i f small, ← i
 pub added_grows : (p : Layout) (k : ℕ) (v : List Item) (i : Item) (w : List Item) → IsAdded p k v i w → IsPrefix v w
 added_grows p k v i w x = (x.between ++ i ∷ [], sym (x.added ∙ append_assoc v x.between (i ∷ [])))
 
-pub fenced : (p : Layout) (c : Caller) (before h : List Item) (floors : Floors) (own : List Place) (fs : List FrontView) (v : Snapshot) → IsLater c.shown v → IsPrefix c.seen before → own ≡ own_places p c.accepted → floors ≡ even_floors p (lens_of fs) → bases_of fs ≡ sources p → Each (IsCovering c.seen) fs → AreShown v fs
-    → IsAdded p (own_word p c.session) before (fence c.session own floors) h → IsFenced p c (record { session = c.session; number = c.number + 1; stolen = c.stolen; seen = h; accepted = c.accepted; floors = floors; shown = v })
-fenced p c before h floors own fs v looked grown places even is each shown added = record {
+pub fenced : (p : Layout) (c : Caller) (before h : List Item) (floors : Floors) (own : List Place) (fs : List FrontView) (v : Snapshot) → IsLater c.shown v → IsPrefix c.seen before → own_items p c.session before ≡ c.answered → own ≡ own_places p c.accepted → floors ≡ even_floors p (lens_of fs) → bases_of fs ≡ sources p → Each (IsCovering c.seen) fs → AreShown v fs
+    → IsAdded p (own_word p c.session) before (fence c.session own floors) h → IsFenced p c (record { session = c.session; number = c.number + 1; answered = c.answered + 1; stolen = c.stolen; seen = h; accepted = c.accepted; floors = floors; shown = v })
+fenced p c before h floors own fs v looked grown once places even is each shown added = record {
   before = before;
   grown = grown;
+  once = once;
   item = subst (λ (l : List Place). IsAdded p (own_word p c.session) before (fence c.session l floors) h) places added;
-  floored = floored p c (record { session = c.session; number = c.number + 1; stolen = c.stolen; seen = h; accepted = c.accepted; floors = floors; shown = v }) fs even is each;
-  shown = floored_by_shown p (record { session = c.session; number = c.number + 1; stolen = c.stolen; seen = h; accepted = c.accepted; floors = floors; shown = v }) fs even is shown;
+  floored = floored p c (record { session = c.session; number = c.number + 1; answered = c.answered + 1; stolen = c.stolen; seen = h; accepted = c.accepted; floors = floors; shown = v }) fs even is each;
+  shown = floored_by_shown p (record { session = c.session; number = c.number + 1; answered = c.answered + 1; stolen = c.stolen; seen = h; accepted = c.accepted; floors = floors; shown = v }) fs even is shown;
   after = refl;
   looked = looked;
 }

@@ -1,6 +1,7 @@
 -- What a session looks at, and its floor there.
-use Rattle.std.proofs.Common.{◌≡◌, ℕ, zero, suc, ◌+◌, ◌<◌, ◌≤◌, Bool, List, [], ◌∷◌, ◌++◌, get_or, length, map, replicate, slice_index_or, slice_set, Option, refl, ap, sym, ◌∙◌, subst, arith, get_or-set_same, length-set}
-use Rattle.std.proofs.lemmas.List.{length-map, map-append}
+use Rattle.std.proofs.Common.{◌≡◌, ℕ, zero, suc, ◌+◌, ◌<◌, ◌≤◌, Bool, List, [], ◌∷◌, ◌++◌, get_or, length, map, replicate, slice_index_or, Option, ap, sym, ◌∙◌, subst, arith, ◌⊎◌, inl, inr, refl}
+use Rattle.std.proofs.lemmas.Bool.{cases_lt}
+use Rattle.std.proofs.lemmas.List.{get_or_past}
 use mathlib.Core.List.{IsPrefix}
 use Rattle.row.specs.Cells.{Datum, Cells}
 use Rattle.plan.specs.Layouts.{Layout, view_at}
@@ -9,9 +10,9 @@ use Rattle.book.specs.Fronts.{FrontView}
 use Rattle.model.specs.Histories.{Item, read, Lengths, Floors, len_at, floor_at, view_shard, log_of}
 use Rattle.book.specs.Pages.{IsAdded}
 use Rattle.model.specs.Places.{sources, source_at}
-use Rattle.book.specs.Sessions.{own_word}
+use Rattle.book.specs.Sessions.{own_word, own_items}
 use Rattle.model.specs.Tables.{even_floors, with_floor}
-use Rattle.model.proofs.Growth.{at_most_self, at_most_trans, at_most_none}
+use Rattle.model.proofs.Growth.{at_most_self, at_most_trans, at_most_none, log_grows}
 use Rattle.model.proofs.CutLaws.{even_at, same_in}
 use Rattle.model.proofs.Prefixes.{prefix_length}
 use Rattle.view.specs.Snapshots.{Snapshot, IsLater, rows_shown}
@@ -20,13 +21,13 @@ use Rattle.system.specs.Served.{IsSingle}
 use Rattle.system.specs.Callers.{Caller, IsCaller, IsLooking, whole_cut}
 use Rattle.system.specs.Reads.{HasLooked, IsRead}
 use Rattle.system.specs.Fences.{AreShown, IsFenced}
-use Rattle.system.proofs.Callers.{caller_later, log_grows}
+use Rattle.system.proofs.Callers.{caller_later}
 use Rattle.system.proofs.Fences.{bases_of, lens_of}
-use Rattle.system.proofs.Singles.{one_source, one_shard, source_is, single_cut, one_at_most}
+use Rattle.system.proofs.Singles.{one_shard}
 
 -- the floors stay, and no less is looked at
-pub looks_later : (p : Layout) (c : Caller) (m : ℕ) (t : Bool) (h : List Item) (accepted : List (Option ℕ)) (v : Snapshot) → IsLooking p c → IsLater c.shown v
-    → IsLooking p (record { session = c.session; number = m; stolen = t; seen = h; accepted = accepted; floors = c.floors; shown = v })
+pub looks_later : {counted : ℕ} → (p : Layout) (c : Caller) (m : ℕ) (t : Bool) (h : List Item) (accepted : List (Option ℕ)) (v : Snapshot) → IsLooking p c → IsLater c.shown v
+    → IsLooking p (record { session = c.session; number = m; answered = counted; stolen = t; seen = h; accepted = accepted; floors = c.floors; shown = v })
 looks_later p c m t h accepted v x later = record {
   single = x.single;
   view = later.view ∙ x.view;
@@ -35,8 +36,8 @@ looks_later p c m t h accepted v x later = record {
 }
 
 -- a session that has made no call
-pub looks_new : (p : Layout) (s : ℕ) (h : List Item) (accepted : List (Option ℕ)) (floors : Floors) (v : Snapshot) → IsSingle p → v.view ≡ 0 → v.shard ≡ 0 → ((i j : ℕ) → floor_at floors i j ≡ [])
-    → (n : ℕ) (t : Bool) → IsLooking p (record { session = s; number = n; stolen = t; seen = h; accepted = accepted; floors = floors; shown = v })
+pub looks_new : {counted : ℕ} → (p : Layout) (s : ℕ) (h : List Item) (accepted : List (Option ℕ)) (floors : Floors) (v : Snapshot) → IsSingle p → v.view ≡ 0 → v.shard ≡ 0 → ((i j : ℕ) → floor_at floors i j ≡ [])
+    → (n : ℕ) (t : Bool) → IsLooking p (record { session = s; number = n; answered = counted; stolen = t; seen = h; accepted = accepted; floors = floors; shown = v })
 looks_new p s h accepted floors v x view shard zeros n t = record {
   single = x;
   view = view;
@@ -54,8 +55,8 @@ shown_below f [] h j = omega arith
 shown_below f (x ∷ fs) h zero = let e = h 0 (omega arith) in omega (arith, e)
 shown_below f (x ∷ fs) h (suc j) = shown_below (λ n. f (suc n)) fs (λ n lt. h (suc n) (omega (arith, lt))) j
 
-pub looks_fenced : (p : Layout) (c : Caller) (m : ℕ) (h : List Item) (floors : Floors) (fs : List FrontView) → IsLooking p c → floors ≡ even_floors p (lens_of fs) → AreShown c.shown fs
-    → IsLooking p (record { session = c.session; number = m; stolen = c.stolen; seen = h; accepted = c.accepted; floors = floors; shown = c.shown })
+pub looks_fenced : {counted : ℕ} → (p : Layout) (c : Caller) (m : ℕ) (h : List Item) (floors : Floors) (fs : List FrontView) → IsLooking p c → floors ≡ even_floors p (lens_of fs) → AreShown c.shown fs
+    → IsLooking p (record { session = c.session; number = m; answered = counted; stolen = c.stolen; seen = h; accepted = c.accepted; floors = floors; shown = c.shown })
 looks_fenced p c m h floors fs x even shown =
     let at : floor_at (even_floors p (lens_of fs)) 0 0 ≡ replicate p.stages (lens_of fs) = even_at p (lens_of fs) 0 0 (omega (arith, x.single.views)) (omega (arith, x.single.view_shards)) in
     let one : floor_at floors 0 0 ≡ lens_of fs ∷ [] = ap (λ f. floor_at f 0 0) even ∙ (at ∙ ap (λ n. replicate n (lens_of fs)) x.single.stages) in
@@ -67,22 +68,34 @@ floor_set [] c d le = at_most_none d
 floor_set ([] ∷ F) c d le = at_most_none d
 floor_set ((x ∷ r) ∷ F) c d le = le
 
-one_whole : (p : Layout) → IsSingle p → (h : List Item) → whole_cut p h ≡ (length (log_of 0 h) ∷ []) ∷ []
-one_whole p x h = ap (λ n. replicate n (map (λ b. length (log_of b h)) (sources p))) x.stages ∙ ap (λ bs. map (λ b. length (log_of b h)) bs ∷ []) (one_source p x)
+map_at : (f : ℕ → ℕ) (bs : List ℕ) (j : ℕ) → j < length bs → slice_index_or (map f bs) j 0 ≡ f (slice_index_or bs j 0)
+map_at f [] j lt = absurd (omega (arith, lt))
+map_at f (b ∷ bs) zero lt = refl
+map_at f (b ∷ bs) (suc j) lt = map_at f bs j (omega (arith, lt))
 
-within_whole : (p : Layout) → IsSingle p → (s h : List Item) (c : Lengths) → IsWithin p s c → IsPrefix s h → IsAtMost c (whole_cut p h)
-within_whole p x s h c w pre =
-    let n = len_at c 0 0 in
-    let low : n ≤ length (log_of (source_at p 0) s) = w.lengths 0 0 in
-    let at : length (log_of (source_at p 0) s) ≡ length (log_of 0 s) = ap (λ b. length (log_of b s)) (source_is p x) in
-    let le : n ≤ length (log_of 0 h) = omega (arith, low, at, prefix_length (log_of 0 s) (log_of 0 h) (log_grows 0 s h pre)) in
-    rw (single_cut p x s c w, one_whole p x h) (one_at_most n (length (log_of 0 h)) le)
+-- a cut within a history has no more of it than there is
+within_whole : (p : Layout) (s h : List Item) (c : Lengths) → IsWithin p s c → IsPrefix s h → IsAtMost c (whole_cut p h)
+within_whole p s h c w pre st j = by_stage (cases_lt st p.stages)
+  where
+    line : List ℕ
+    line = map (λ b. length (log_of b h)) (sources p)
 
-pub caller_read : (p : Layout) (old : Caller) (m : ℕ) (s h : List Item) (c : Lengths) (floors : Floors) (v : Snapshot) → IsSingle p → IsCaller p old → IsPrefix old.seen h → IsWithin p s c → IsPrefix s h → floors ≡ with_floor old.floors 0 0 c
-    → IsCaller p (record { session = old.session; number = m; stolen = old.stolen; seen = h; accepted = old.accepted; floors = floors; shown = v })
+    low : j < length (sources p) → len_at c st j ≤ slice_index_or line j 0
+    low lt = omega (arith, w.lengths st j, prefix_length (log_of (source_at p j) s) (log_of (source_at p j) h) (log_grows (source_at p j) s h pre), map_at (λ b. length (log_of b h)) (sources p) j lt)
+
+    by_source : st < p.stages → (j < length (sources p)) ⊎ (length (sources p) ≤ j) → len_at c st j ≤ slice_index_or (slice_index_or (whole_cut p h) st []) j 0
+    by_source small (inl lt) = rw (same_in line [] p.stages st small) (low lt)
+    by_source small (inr ge) = omega (arith, get_or_past (slice_index_or c st []) j 0 (omega (arith, ge, w.lines st small)))
+
+    by_stage : (st < p.stages) ⊎ (p.stages ≤ st) → len_at c st j ≤ len_at (whole_cut p h) st j
+    by_stage (inl small) = by_source small (cases_lt j (length (sources p)))
+    by_stage (inr ge) = omega (arith, ap (λ l. slice_index_or l j 0) (get_or_past c st [] (omega (arith, ge, w.stages))))
+
+pub caller_read : {counted : ℕ} → (p : Layout) (old : Caller) (m : ℕ) (s h : List Item) (c : Lengths) (floors : Floors) (v : Snapshot) → IsSingle p → IsCaller p old → IsPrefix old.seen h → IsWithin p s c → IsPrefix s h → floors ≡ with_floor old.floors 0 0 c
+    → IsCaller p (record { session = old.session; number = m; answered = counted; stolen = old.stolen; seen = h; accepted = old.accepted; floors = floors; shown = v })
 caller_read p old m s h c floors v x is grown w pre set =
-    let later = caller_later p old m old.stolen h v is grown in
-    let top : IsAtMost (floor_at floors 0 0) (whole_cut p h) = subst (λ (f : Floors). IsAtMost (floor_at f 0 0) (whole_cut p h)) (sym set) (floor_set old.floors c (whole_cut p h) (within_whole p x s h c w pre)) in
+    let later = caller_later {counted = 0} p old m old.stolen h v is grown in
+    let top : IsAtMost (floor_at floors 0 0) (whole_cut p h) = subst (λ (f : Floors). IsAtMost (floor_at f 0 0) (whole_cut p h)) (sym set) (floor_set old.floors c (whole_cut p h) (within_whole p s h c w pre)) in
     record {
       width = later.width;
       own = later.own;
@@ -95,8 +108,8 @@ caller_read p old m s h c floors v x is grown w pre set =
         let ej : j ≡ 0 = omega (arith, lj, shards) in
         subst (λ n. IsAtMost (floor_at floors n j) (whole_cut p h)) (sym ei) (subst (λ n. IsAtMost (floor_at floors 0 n) (whole_cut p h)) (sym ej) top)
 
-pub looks_read : (p : Layout) (old : Caller) (m : ℕ) (h : List Item) (c : Lengths) (floors : Floors) → IsLooking p old → c ≡ old.shown.cut.lengths → floors ≡ with_floor old.floors 0 0 c
-    → IsLooking p (record { session = old.session; number = m; stolen = old.stolen; seen = h; accepted = old.accepted; floors = floors; shown = old.shown })
+pub looks_read : {counted : ℕ} → (p : Layout) (old : Caller) (m : ℕ) (h : List Item) (c : Lengths) (floors : Floors) → IsLooking p old → c ≡ old.shown.cut.lengths → floors ≡ with_floor old.floors 0 0 c
+    → IsLooking p (record { session = old.session; number = m; answered = counted; stolen = old.stolen; seen = h; accepted = old.accepted; floors = floors; shown = old.shown })
 looks_read p old m h c floors x cut set = record {
   single = x.single;
   view = x.view;
@@ -111,16 +124,17 @@ pub only_shard : (p : Layout) → IsSingle p → (v : ℕ) (k : Datum) → v ≡
 only_shard p x v k e = ap (λ n. view_shard p n k) e ∙ one_shard p x k
 
 abbrev read_caller : Caller → List Item → Floors → Caller
-read_caller old h floors = record { session = old.session; number = old.number + 1; stolen = old.stolen; seen = h; accepted = old.accepted; floors = floors; shown = old.shown }
+read_caller old h floors = record { session = old.session; number = old.number + 1; answered = old.answered + 1; stolen = old.stolen; seen = h; accepted = old.accepted; floors = floors; shown = old.shown }
 
-pub read_done : (p : Layout) (old : Caller) (v : ℕ) (k : Datum) (rs : List Cells) (c : Lengths) (before h : List Item) (floors : Floors) → IsLooking p old → v ≡ 0 → IsPrefix old.seen before → IsAdded p (own_word p old.session) before (read old.session v k rs c) h
+pub read_done : (p : Layout) (old : Caller) (v : ℕ) (k : Datum) (rs : List Cells) (c : Lengths) (before h : List Item) (floors : Floors) → IsLooking p old → v ≡ 0 → IsPrefix old.seen before → own_items p old.session before ≡ old.answered → IsAdded p (own_word p old.session) before (read old.session v k rs c) h
     → rs ≡ rows_shown p old.shown k → c ≡ old.shown.cut.lengths → floors ≡ with_floor old.floors v 0 c → IsRead p old (read_caller old h floors) v k rs c
-read_done p old v k rs c before h floors x ev grown item rows cut set =
+read_done p old v k rs c before h floors x ev grown once item rows cut set =
     let es : view_shard p v k ≡ 0 = only_shard p x.single v k ev in
     let low : IsAtMost (floor_at old.floors v (view_shard p v k)) old.shown.cut.lengths = subst (λ n. IsAtMost (floor_at old.floors n (view_shard p v k)) old.shown.cut.lengths) (sym ev) (subst (λ n. IsAtMost (floor_at old.floors 0 n) old.shown.cut.lengths) (sym es) x.floor) in
     record {
       before = before;
       grown = grown;
+      once = once;
       item = item;
       looked = later_self old.shown;
       view = x.view ∙ sym ev;
@@ -139,6 +153,9 @@ module _ (p : Layout) (old mid new : Caller) (x : HasLooked old mid) where
   number_same : mid.number ≡ old.number
   number_same = ap (λ (c : Caller). c.number) x.after
 
+  answered_same : mid.answered ≡ old.answered
+  answered_same = ap (λ (c : Caller). c.answered) x.after
+
   stolen_same : mid.stolen ≡ old.stolen
   stolen_same = ap (λ (c : Caller). c.stolen) x.after
 
@@ -155,6 +172,7 @@ module _ (p : Layout) (old mid new : Caller) (x : HasLooked old mid) where
   looked_read v k rs c r = record {
     before = r.before;
     grown = rw seen_same at r.grown;
+    once = rw (session_same, answered_same) at r.once;
     item = rw session_same at r.item;
     looked = later_trans old.shown mid.shown new.shown x.looked r.looked;
     view = r.view;
@@ -162,17 +180,18 @@ module _ (p : Layout) (old mid new : Caller) (x : HasLooked old mid) where
     rows = r.rows;
     cut = r.cut;
     floor = rw floors_same at r.floor;
-    after = rw (session_same, number_same, stolen_same, accepted_same, floors_same) at r.after;
+    after = rw (session_same, number_same, answered_same, stolen_same, accepted_same, floors_same) at r.after;
   }
 
   pub looked_fenced : IsFenced p mid new → IsFenced p old new
   looked_fenced r = record {
     before = r.before;
     grown = rw seen_same at r.grown;
+    once = rw (session_same, answered_same) at r.once;
     item = rw (session_same, accepted_same) at r.item;
     floored = rw seen_same at r.floored;
     shown = r.shown;
-    after = rw (session_same, number_same, stolen_same, accepted_same) at r.after;
+    after = rw (session_same, number_same, answered_same, stolen_same, accepted_same) at r.after;
     looked = later_trans old.shown mid.shown new.shown x.looked r.looked;
   }
 

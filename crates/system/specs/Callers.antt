@@ -8,10 +8,11 @@ use Rattle.model.specs.Legal.{EachShard}
 use Rattle.view.specs.Snapshots.{Snapshot}
 use Rattle.system.specs.Served.{IsSingle}
 
--- who it is, the number of its next call, whether its word was moved by another, what it has seen, the greatest index accepted in each base shard, its floors, and what it has last looked at
+-- who it is, the number of its next call, how many reads and fences it has answered, whether its word was moved by another, what it has seen, the greatest index accepted in each base shard, its floors, and what it has last looked at
 pub record Caller : Type 0 where
   pub session : ℕ
   pub number : ℕ
+  pub answered : ℕ
   pub stolen : Bool
   pub seen : List Item
   pub accepted : List (Option ℕ)

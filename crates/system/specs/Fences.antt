@@ -9,7 +9,7 @@ use Rattle.model.specs.Histories.{Item, fence, Place, len_at, floor_at, log_of}
 use Rattle.book.specs.Fronts.{FrontView}
 use Rattle.model.specs.Legal.{EachShard}
 use Rattle.book.specs.Pages.{IsAdded}
-use Rattle.book.specs.Sessions.{own_word}
+use Rattle.book.specs.Sessions.{own_word, own_items}
 use Rattle.view.specs.Snapshots.{Snapshot, IsLater}
 use Rattle.system.specs.Callers.{Caller, accepted_at}
 
@@ -40,19 +40,20 @@ AreLonger (f ∷ fs) (g ∷ gs) = (f.len ≤ g.len) × AreLonger fs gs
 abbrev pub IsFlooredByShown : Layout → Caller → Type 0
 IsFlooredByShown p c = EachShard p (λ v j. (s i : ℕ) → s < p.stages → i < length (sources p) → len_at (floor_at c.floors v j) s i ≡ len_at c.shown.cut.lengths 0 i)
 
--- a fence item stands at the end of what was then seen, with the greatest accepted index of each source, and each floor is what was then shown, which has all that its session had seen
+-- a fence item stands at the end of what was then seen, the only one of its session beyond those that it had answered, with the greatest accepted index of each source, and each floor is what was then shown, which has all that its session had seen
 pub record IsFenced (p : Layout) (old new : Caller) : Type 0 where
   pub before : List Item
   pub grown : IsPrefix old.seen before
+  pub once : own_items p old.session before ≡ old.answered
   pub item : IsAdded p (own_word p old.session) before (fence old.session (own_places p old.accepted) new.floors) new.seen
   pub floored : IsFloored p old.seen new
   pub shown : IsFlooredByShown p new
-  pub after : new ≡ record { session = old.session; number = old.number + 1; stolen = old.stolen; seen = new.seen; accepted = old.accepted; floors = new.floors; shown = new.shown }
+  pub after : new ≡ record old { number = old.number + 1; answered = old.answered + 1; seen = new.seen; floors = new.floors; shown = new.shown }
   pub looked : IsLater old.shown new.shown
 
 -- a refused fence leaves the floors and what was accepted, and all that was seen, but where the word was moved by another
 pub record IsUnfenced (old new : Caller) (r : Refused) : Type 0 where
-  pub after : new ≡ record { session = old.session; number = new.number; stolen = new.stolen; seen = new.seen; accepted = old.accepted; floors = old.floors; shown = new.shown }
+  pub after : new ≡ record old { number = new.number; stolen = new.stolen; seen = new.seen; shown = new.shown }
   pub looked : IsLater old.shown new.shown
   pub grown : IsPrefix old.seen new.seen
   pub number : (new.number ≡ old.number) ⊎ (new.number ≡ old.number + 1)

@@ -37,7 +37,7 @@ call_refusal p c name e = first_of (stolen_refusal c) (write_refusal p (table_na
 pub record IsTaken (old new : Caller) (b : ℕ) (e : Change) (k : ℕ) : Type 0 where
   pub item : IsAfter old.seen (write old.session old.number b e) b k new.seen
   pub greatest : (i : ℕ) → accepted_at old.accepted b ≡ Some i → i < k
-  pub after : new ≡ record { session = old.session; number = old.number + 1; stolen = old.stolen; seen = new.seen; accepted = slice_set old.accepted b (Some k); floors = old.floors; shown = old.shown }
+  pub after : new ≡ record old { number = old.number + 1; seen = new.seen; accepted = slice_set old.accepted b (Some k) }
 
 -- the same, of the table that was named
 pub record Accepts (p : Layout) (old new : Caller) (name : List ℕ) (e : Change) (a : Accepted) : Type 0 where
@@ -57,7 +57,7 @@ IsAnswer p seen s m b e r now = ((r ≡ NoMemory) ⊎ (r ≡ Stopped)) × (now �
 
 -- a write that is not accepted leaves the floors and what was accepted; and all that was seen, but where the log decides
 pub record IsRefused (old new : Caller) : Type 0 where
-  pub after : new ≡ record { session = old.session; number = new.number; stolen = old.stolen; seen = new.seen; accepted = old.accepted; floors = old.floors; shown = old.shown }
+  pub after : new ≡ record old { number = new.number; seen = new.seen }
   pub number : (new.number ≡ old.number) ⊎ (new.number ≡ old.number + 1)
 
 -- it was refused for a reason of the store, or the log decided, and then the call has taken its number

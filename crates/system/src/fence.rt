@@ -152,8 +152,9 @@ impl<J: Naming> Session<J> {
     }
 }
 
-// Sends a marker to each source.
-fn send_markers<J: Naming, R: Wait>(
+// Sends a marker through each source in turn, and waits each time until it has come through the
+// view's shard.
+fn passed_through<J: Naming, R: Wait>(
     rt: &R,
     shared: &Shared<J>,
     marker: Marker,
@@ -162,19 +163,19 @@ fn send_markers<J: Naming, R: Wait>(
 {
     for base in shared.sources() {
         shared.send(rt, *base, ToBase::Marker(marker))?;
+        acknowledged(rt, shared, marker)?;
     }
     Ok(())
 }
 
-// Sends a marker to each source, and waits until it has come through the view's shard.
-fn passed_through<J: Naming, R: Wait>(
+// Waits until the marker has come through.
+fn acknowledged<J: Naming, R: Wait>(
     rt: &R,
     shared: &Shared<J>,
     marker: Marker,
 ) -> Result<(), Refused>
-    ensures only { IfErr result (λ e. (e ≡ Refused.NoMemory) ⊎ (e ≡ Refused.Stopped)) }
+    ensures only { IfErr result (λ e. e ≡ Refused.Stopped) }
 {
-    send_markers(rt, shared, marker)?;
     for _ in rt.forever() {
         if let Some(
             Ack {

@@ -5,20 +5,13 @@ ghost use Rattle.system.specs.Served.{IsSingle};
 
 use plan::plan::Plan;
 
-/// Whether the plan has one table and one view, one shard of everything, and each row of its table
-/// is an output row.
+/// Whether the plan has one stage shard and one view with one shard, and each row of its left table is
+/// an output row. It may have any tables, with any shards.
 pub fn is_single(plan: &Plan) -> bool
     ensures yes { IsTrue result → IsSingle plan.now }
     ensures no { IsFalse result → IsSingle plan.now → ⊥ }
 {
-    has_one_table(plan) && has_one_view(plan) && shows_its_rows(plan)
-}
-
-fn has_one_table(plan: &Plan) -> bool
-    ensures yes { IsTrue result → (length plan.now.tables ≡ 1) × ((table_at plan.now 0).shards ≡ 1) }
-    ensures no { IsFalse result → (length plan.now.tables ≡ 1) → (table_at plan.now 0).shards ≡ 1 → ⊥ }
-{
-    plan.tables() == 1 && plan.table(0).shards() == 1
+    has_one_view(plan) && shows_its_rows(plan)
 }
 
 fn has_one_view(plan: &Plan) -> bool
@@ -30,11 +23,10 @@ fn has_one_view(plan: &Plan) -> bool
 
 // Whether the one stage shard passes each row on as it is.
 fn shows_its_rows(plan: &Plan) -> bool
-    ensures yes { IsTrue result → (plan.now.stages ≡ 1) × (plan.now.left.table ≡ 0) × (plan.now.left.conditions ≡ []) × (plan.now.right ≡ None) × (plan.now.aggregate ≡ None) }
-    ensures no { IsFalse result → plan.now.stages ≡ 1 → plan.now.left.table ≡ 0 → plan.now.left.conditions ≡ [] → plan.now.right ≡ None → plan.now.aggregate ≡ None → ⊥ }
+    ensures yes { IsTrue result → (plan.now.stages ≡ 1) × (plan.now.left.conditions ≡ []) × (plan.now.right ≡ None) × (plan.now.aggregate ≡ None) }
+    ensures no { IsFalse result → plan.now.stages ≡ 1 → plan.now.left.conditions ≡ [] → plan.now.right ≡ None → plan.now.aggregate ≡ None → ⊥ }
 {
     plan.stages() == 1
-        && plan.left().table() == 0
         && plan.left().conditions().is_empty()
         && plan.right().is_none()
         && plan.aggregate().is_none()

@@ -1,15 +1,14 @@
 //! Sessions: what one caller holds of the store.
 ghost use Rattle.std.specs.Prelude.{◌≡◌, ◌⊎◌, ◌+◌, ◌<◌, ◌≤◌, ℕ, true, false, length, replicate, slice_get, slice_set, IfOk, OnOk, IfErr, IfSome, IfNone, IsTrue, IsFalse, Some, None, []};
 ghost use mathlib.Core.List.{IsPrefix};
-ghost use Rattle.row.specs.Cells.{shard};
-ghost use Rattle.plan.specs.Kinds.{is_row};
+ghost use Rattle.row.specs.Cells.{datum_of, shard};
 ghost use Rattle.plan.specs.Layouts.{table_at, table_named};
 ghost use Rattle.model.specs.Entries.{change_of};
 ghost use Rattle.model.specs.Histories.{floor_at, write};
 ghost use Rattle.model.specs.Legal.{IsLegal};
-ghost use Rattle.model.specs.Logs.{fits, inserts, key_of};
+ghost use Rattle.model.specs.Logs.{deletes, fits, inserts, key_of, updates};
 ghost use Rattle.model.specs.Places.{base_at, base_count, layout_of, shard_of};
-ghost use Rattle.model.specs.Refusals.{write_refusal};
+ghost use Rattle.model.specs.Refusals.{misfit, write_refusal};
 ghost use Rattle.book.specs.Replies.{IsAfter, IsWhole};
 ghost use Rattle.base.specs.Shards.{HasKey};
 ghost use Rattle.domain.specs.Messages.{IsDecided, last_number};
@@ -27,7 +26,7 @@ use model::places::base_at;
 use plan::plan::Plan;
 use row::refused::Refused;
 use row::row::Row;
-use row::value::shard_of;
+use row::value::{Value, shard_of};
 use std::alloc::{AllocError, Global};
 use std::marker::Model;
 use std::sync::{Arc, Wait};
@@ -60,44 +59,45 @@ impl<J: Naming> Model for Session<J> {
 
     ghost Value = { Caller };
 
-    ghost view = { λ s. record { session = s.word.session; number = s.number; stolen = s.stolen; seen = s.seen; accepted = s.accepted.items; floors = s.word.floors; shown = s.reader } };
+    ghost view = { λ s. record { session = s.word.session; number = s.number; answered = s.word.answered; stolen = s.stolen; seen = s.seen; accepted = s.accepted.items; floors = s.word.floors; shown = s.reader } };
 
-    ghost invariant = { λ s. IsCaller J.plan (record { session = s.word.session; number = s.number; stolen = s.stolen; seen = s.seen; accepted = s.accepted.items; floors = s.word.floors; shown = s.reader }) × (s.word.answered ≤ s.number) × IsLooking J.plan (record { session = s.word.session; number = s.number; stolen = s.stolen; seen = s.seen; accepted = s.accepted.items; floors = s.word.floors; shown = s.reader }) };
+    ghost invariant = { λ s. IsCaller J.plan (record { session = s.word.session; number = s.number; answered = s.word.answered; stolen = s.stolen; seen = s.seen; accepted = s.accepted.items; floors = s.word.floors; shown = s.reader }) × (s.word.answered ≤ s.number) × IsLooking J.plan (record { session = s.word.session; number = s.number; answered = s.word.answered; stolen = s.stolen; seen = s.seen; accepted = s.accepted.items; floors = s.word.floors; shown = s.reader }) };
 }
 
 impl<J: Naming> Session<J> {
     ghost use Rattle.system.specs.Callers.{Caller};
     ghost use Rattle.system.specs.Inserts.{Accepts, Declines, IsRefused, IsTaken, IsUntaken, call_refusal, stolen_refusal};
 
-    /// The session of this number, which has made no call.
+    /// The session of this word, which has answered nothing and made no call.
     pub(crate) fn new(
-        alloc: Global,
-        number: usize,
-        start: &Front<J>,
+        word: SessionWord<J>,
+        accepted: Vec<Option<u64>>,
         reader: ShownReader<J>,
         shared: Arc<Shared<J>>,
-    ) -> Result<Session<J>, AllocError>
-        requires number { number < J.sessions }
+    ) -> Session<J>
+        requires answered { word.answered ≡ 0 }
+        requires floors { (v j : ℕ) → floor_at word.floors v j ≡ [] }
+        requires accepted { accepted.items ≡ replicate (base_count J.plan) None }
         requires single { IsSingle J.plan }
         requires reader { (reader.view ≡ 0) × (reader.shard ≡ 0) }
-        ensures session { IfOk result (λ s. s.session ≡ number) }
-        ensures number { IfOk result (λ s. s.number ≡ 0) }
-        ensures unspent { IfOk result (λ s. s.stolen ≡ false) }
-        ensures seen { IfOk result (λ s. s.seen ≡ start.now.seen) }
-        ensures accepted { IfOk result (λ s. s.accepted ≡ replicate (base_count J.plan) None) }
-        ensures floors { IfOk result (λ s. (v j : ℕ) → floor_at s.floors v j ≡ []) }
+        ensures session { result.session ≡ word.session }
+        ensures number { result.number ≡ 0 }
+        ensures answered { result.answered ≡ 0 }
+        ensures unspent { result.stolen ≡ false }
+        ensures seen { result.seen ≡ word.seen }
+        ensures accepted { result.accepted ≡ accepted.items }
+        ensures floors { (v j : ℕ) → floor_at result.floors v j ≡ [] }
     {
-        let word = SessionWord::first(alloc, shared.plan(), number, start)?;
-        let accepted = vec![in alloc; None; shared.book().bases()]?;
-        Ok(Session {
+        let seen = word.part();
+        Session {
             word,
             number: 0,
             stolen: false,
-            seen: start.part(),
+            seen,
             accepted,
             reader,
             shared,
-        })
+        }
     }
 
     /// The plan.
@@ -139,30 +139,84 @@ impl<J: Naming> Session<J> {
         ensures accepted { IfOk result (λ a. Accepts J.plan self.old self.new table.now (inserts row) a) }
         ensures refused { IfErr result (λ e. Declines J.plan self.old self.new table.now (inserts row) e) }
     {
-        let answer = self.insert_row(rt, alloc, table, row);
-        self.seen.is_legal();
-        answer
+        self.write(rt, alloc, table, Entry::Insert(row))
     }
 
-    fn insert_row<R: Wait>(
+    /// Puts a row in the place of the row of its key, as `insert`, with `Absent` in the place of
+    /// `Duplicate`: where no row has the key.
+    pub fn update<R: Wait>(
         &mut self,
         rt: &R,
         alloc: Global,
         table: &str,
         row: Row,
     ) -> Result<Accepted, Refused>
+        ensures legal { IsLegal J.plan J.sessions self.new.seen }
         ensures spent { stolen_refusal self.old ≡ Some Refused.Stolen → (result ≡ Err Refused.Stolen) × (self.new ≡ self.old) }
-        ensures why { IfSome (call_refusal J.plan self.old table.now (inserts row)) (λ e. result ≡ Err e) }
-        ensures accepted { IfOk result (λ a. Accepts J.plan self.old self.new table.now (inserts row) a) }
-        ensures refused { IfErr result (λ e. Declines J.plan self.old self.new table.now (inserts row) e) }
+        ensures why { IfSome (call_refusal J.plan self.old table.now (updates row)) (λ e. result ≡ Err e) }
+        ensures accepted { IfOk result (λ a. Accepts J.plan self.old self.new table.now (updates row) a) }
+        ensures refused { IfErr result (λ e. Declines J.plan self.old self.new table.now (updates row) e) }
+    {
+        self.write(rt, alloc, table, Entry::Update(row))
+    }
+
+    /// Takes the row of a key away, as `insert`, with `BadKey` in the place of `BadRow`, where the key
+    /// is no cell of the key column, and `Absent` in the place of `Duplicate`, where no row has it.
+    pub fn delete<R: Wait>(
+        &mut self,
+        rt: &R,
+        alloc: Global,
+        table: &str,
+        key: Value,
+    ) -> Result<Accepted, Refused>
+        ensures legal { IsLegal J.plan J.sessions self.new.seen }
+        ensures spent { stolen_refusal self.old ≡ Some Refused.Stolen → (result ≡ Err Refused.Stolen) × (self.new ≡ self.old) }
+        ensures why { IfSome (call_refusal J.plan self.old table.now (deletes (datum_of key))) (λ e. result ≡ Err e) }
+        ensures accepted { IfOk result (λ a. Accepts J.plan self.old self.new table.now (deletes (datum_of key)) a) }
+        ensures refused { IfErr result (λ e. Declines J.plan self.old self.new table.now (deletes (datum_of key)) e) }
+    {
+        self.write(rt, alloc, table, Entry::Delete(key))
+    }
+
+    // Writes an entry to the table of this name.
+    fn write<R: Wait>(
+        &mut self,
+        rt: &R,
+        alloc: Global,
+        table: &str,
+        entry: Entry,
+    ) -> Result<Accepted, Refused>
+        ensures legal { IsLegal J.plan J.sessions self.new.seen }
+        ensures spent { stolen_refusal self.old ≡ Some Refused.Stolen → (result ≡ Err Refused.Stolen) × (self.new ≡ self.old) }
+        ensures why { IfSome (call_refusal J.plan self.old table.now (change_of entry)) (λ e. result ≡ Err e) }
+        ensures accepted { IfOk result (λ a. Accepts J.plan self.old self.new table.now (change_of entry) a) }
+        ensures refused { IfErr result (λ e. Declines J.plan self.old self.new table.now (change_of entry) e) }
+    {
+        let answer = self.write_fitting(rt, alloc, table, entry);
+        self.seen.is_legal();
+        answer
+    }
+
+    // Writes an entry to the table of this name, where it fits the table.
+    fn write_fitting<R: Wait>(
+        &mut self,
+        rt: &R,
+        alloc: Global,
+        table: &str,
+        entry: Entry,
+    ) -> Result<Accepted, Refused>
+        ensures spent { stolen_refusal self.old ≡ Some Refused.Stolen → (result ≡ Err Refused.Stolen) × (self.new ≡ self.old) }
+        ensures why { IfSome (call_refusal J.plan self.old table.now (change_of entry)) (λ e. result ≡ Err e) }
+        ensures accepted { IfOk result (λ a. Accepts J.plan self.old self.new table.now (change_of entry) a) }
+        ensures refused { IfErr result (λ e. Declines J.plan self.old self.new table.now (change_of entry) e) }
     {
         if self.is_spent() {
             return Err(Refused::Stolen);
         }
-        let table = fitting_table(self.plan(), table, &row)?;
-        let shard = shard_in(self.plan(), table, &row);
+        let table = fitting_table(self.plan(), table, &entry)?;
+        let shard = shard_in(self.plan(), table, &entry);
         let base = base_at(self.plan(), table, shard);
-        match self.write(rt, alloc, base, Entry::Insert(row)) {
+        match self.send(rt, alloc, base, entry) {
             Ok(index) => Ok(Accepted {
                 table,
                 shard,
@@ -172,8 +226,8 @@ impl<J: Naming> Session<J> {
         }
     }
 
-    // Writes an entry that fits its table to its base shard, and gives the index.
-    fn write<R: Wait>(
+    // Sends an entry that fits its table to its base shard, and gives the index.
+    fn send<R: Wait>(
         &mut self,
         rt: &R,
         alloc: Global,
@@ -230,32 +284,46 @@ impl<J: Naming> Session<J> {
     }
 }
 
-// The place of the table of this name, where the row fits it.
-fn fitting_table(plan: &Plan, name: &str, row: &Row) -> Result<usize, Refused>
+// The place of the table of this name, where the entry fits it.
+fn fitting_table(plan: &Plan, name: &str, entry: &Entry) -> Result<usize, Refused>
     ensures there { IfOk result (λ t. t < length plan.now.tables) }
     ensures named { IfOk result (λ t. table_named plan.now name.now ≡ Some t) }
-    ensures fits { IfOk result (λ t. is_row (table_at plan.now t).columns row.now ≡ true) }
-    ensures key { IfOk result (λ t. (table_at plan.now t).key < length row.now) }
-    ensures free { IfOk result (λ t. write_refusal plan.now (table_named plan.now name.now) (inserts row.now) ≡ None) }
-    ensures why { IfErr result (λ e. write_refusal plan.now (table_named plan.now name.now) (inserts row.now) ≡ Some e) }
+    ensures fits { IfOk result (λ t. fits (table_at plan.now t) (change_of entry.now) ≡ true) }
+    ensures key { IfOk result (λ t. HasKey (table_at plan.now t).key (change_of entry.now)) }
+    ensures free { IfOk result (λ t. write_refusal plan.now (table_named plan.now name.now) (change_of entry.now) ≡ None) }
+    ensures why { IfErr result (λ e. write_refusal plan.now (table_named plan.now name.now) (change_of entry.now) ≡ Some e) }
 {
     let Some(place) = plan.table_named(name) else {
         return Err(Refused::UnknownTable);
     };
-    if !plan.table(place).takes(row) {
-        return Err(Refused::BadRow);
+    if !entry.fits(plan.table(place)) {
+        return Err(misfit(entry));
     }
     Ok(place)
 }
 
-// The shard of the table in which the row stands.
-fn shard_in(plan: &Plan, table: usize, row: &Row) -> usize
+// What an entry that does not fit is refused with.
+fn misfit(entry: &Entry) -> Refused
+    ensures { result ≡ misfit (change_of entry.now) }
+{
+    match entry {
+        Entry::Insert(_) | Entry::Update(_) => Refused::BadRow,
+        Entry::Delete(_) => Refused::BadKey,
+    }
+}
+
+// The shard of the table in which the entry stands.
+fn shard_in(plan: &Plan, table: usize, entry: &Entry) -> usize
     requires table { table < length plan.now.tables }
-    requires key { (table_at plan.now table).key < length row.now }
-    ensures shard { result ≡ shard (key_of (table_at plan.now table).key (inserts row.now)) (table_at plan.now table).shards }
+    requires key { HasKey (table_at plan.now table).key (change_of entry.now) }
+    ensures shard { result ≡ shard (key_of (table_at plan.now table).key (change_of entry.now)) (table_at plan.now table).shards }
     ensures range { result < (table_at plan.now table).shards }
 {
     plan.keeps_profile();
     let table = plan.table(table);
-    shard_of(row.cell(table.key()), table.shards())
+    let key = match entry {
+        Entry::Insert(row) | Entry::Update(row) => row.cell(table.key()),
+        Entry::Delete(key) => key,
+    };
+    shard_of(key, table.shards())
 }

@@ -32,7 +32,8 @@ pub enum ToBase<J: Naming> {
 /// A message to the view's shard.
 #[derive(Drop)]
 pub enum ToView<J: Naming> {
-    Packet(BasePacket<J>),
+    /// Of the source of this place among the stage's.
+    Packet(usize, BasePacket<J>),
     Marker(Marker),
 }
 
@@ -40,7 +41,7 @@ impl<J: Naming> ToView<J> {
     /// The marker, if it is one.
     pub fn marker(&self) -> Option<Marker> {
         match self {
-            ToView::Packet(_) => None,
+            ToView::Packet(_, _) => None,
             ToView::Marker(marker) => Some(*marker),
         }
     }

@@ -2,19 +2,21 @@
 ghost use Rattle.std.specs.Prelude.{◌≡◌, ◌⊎◌, ◌+◌, ◌<◌, ◌≤◌, ℕ, false, IfOk, OnOk, IfErr, Err, OnErr, length, []};
 ghost use Rattle.system.specs.Served.{IsSingle};
 ghost use Rattle.view.specs.Boards.{pending, shown};
-ghost use Rattle.plan.specs.Layouts.{table_at};
 ghost use Rattle.model.specs.Histories.{floor_at};
+ghost use Rattle.row.specs.Bags.{Each};
+ghost use Rattle.book.specs.Fronts.{FrontView};
 
 use crate::served::is_single;
 use crate::session::Session;
 use crate::shared::Shared;
 use crate::view_worker::view_work;
 use crate::worker::base_work;
-use book::book::Opened;
-use book::front::Front;
+use book::book::{Opened, Rights};
 use book::law::Naming;
+use book::log::Log;
+use book::session::SessionWord;
 use domain::base_domain::BaseDomain;
-use model::places::base_at;
+use model::places::place_of;
 use plan::plan::Plan;
 use row::refused::Refused;
 use std::alloc::Global;
@@ -28,7 +30,7 @@ use view::writer::{self, ShownWriter};
 #[derive(Drop)]
 pub struct System<J: Naming> {
     shared: Arc<Shared<J>>,
-    start: Front<J>,
+    words: Vec<SessionWord<J>>,
     reader: ShownReader<J>,
     sessions: usize,
     given: usize,
@@ -37,7 +39,8 @@ pub struct System<J: Naming> {
 }
 
 impl<J: Naming> Model for System<J> {
-    ghost use Rattle.std.specs.Prelude.{◌≡◌, ℕ, []};
+    ghost use Rattle.std.specs.Prelude.{◌≡◌, ◌+◌, ℕ, length};
+    ghost use Rattle.book.specs.Rights.{AreFresh};
     ghost use Rattle.system.specs.Served.{IsSingle};
 
     ghost Value = { ℕ };
@@ -45,7 +48,9 @@ impl<J: Naming> Model for System<J> {
     // How many sessions it has given.
     ghost view = { λ s. s.given };
 
-    ghost invariant = { λ s. (s.start.seen ≡ []) × (s.sessions ≡ J.sessions) × IsSingle J.plan × (s.reader.view ≡ 0) × (s.reader.shard ≡ 0) };
+    ghost invariant = { λ s. AreFresh s.given s.words.items
+        × (s.given + length s.words.items ≡ J.sessions) × (s.sessions ≡ J.sessions)
+        × IsSingle J.plan × (s.reader.view ≡ 0) × (s.reader.shard ≡ 0) };
 }
 
 impl<J: Naming + Send + Sync + 'static> System<J> {
@@ -96,21 +101,25 @@ impl<J: Naming + Send + Sync + 'static> System<J> {
         ensures none { IfOk result (λ s. s ≡ 0) }
     {
         plan.keeps_profile();
-        let first = base_at(&plan, 0, 0);
-        let (book, start) = opened.named::<J>(first);
-        let mut writer = writer::open(rt, alloc, &plan, 0, 0, &start.part(), sessions + 1)?;
+        let Rights {
+            book,
+            start,
+            logs,
+            words,
+        } = opened.named::<J>(alloc, &plan)?;
+        let mut writer = writer::open(rt, alloc, &plan, 0, 0, &start, sessions + 1)?;
         let reader = writer.reader()?;
         let shared = Shared::new(alloc, plan, book, sessions)?;
         let mut system = System {
             shared: Arc::new(alloc, shared)?,
-            start,
+            words,
             reader,
             sessions,
             given: 0,
             workers: Vec::new(alloc),
             view_worker: None,
         };
-        match system.start_workers(rt, alloc, writer) {
+        match system.start_workers(rt, alloc, writer, logs) {
             Ok(()) => Ok(system),
             Err(refused) => {
                 system.stop(&rt);
@@ -119,13 +128,15 @@ impl<J: Naming + Send + Sync + 'static> System<J> {
         }
     }
 
-    // Starts a thread for the view, and one for each shard of each table.
+    // Starts a thread for the view, and one for each base shard, which gets its log.
     fn start_workers<R: Threads + Wait + Copy + Drop + Send + 'static>(
         &mut self,
         rt: R,
         alloc: Global,
         writer: ShownWriter<J, R>,
+        mut logs: Vec<Log<J>>,
     ) -> Result<(), Refused>
+        requires empty { Each (λ (f : FrontView). f.len ≡ 0) logs.items }
         requires of { ((shown writer).view ≡ 0) × ((shown writer).shard ≡ 0) }
         requires pending { pending writer ≡ [] }
         ensures only { IfErr result (λ e. e ≡ Refused.NoMemory) }
@@ -141,10 +152,8 @@ impl<J: Naming + Send + Sync + 'static> System<J> {
             Ok(worker) => self.view_worker = Some(worker),
             Err(_) => return Err(Refused::NoMemory),
         }
-        for table in 0..self.shared.plan().tables() {
-            for shard in 0..self.shared.plan().table(table).shards() {
-                self.start_worker(rt, alloc, table, shard)?;
-            }
+        while let Some(log) = logs.pop() {
+            self.start_worker(rt, alloc, log)?;
         }
         Ok(())
     }
@@ -153,17 +162,17 @@ impl<J: Naming + Send + Sync + 'static> System<J> {
         &mut self,
         rt: R,
         alloc: Global,
-        table: usize,
-        shard: usize,
+        log: Log<J>,
     ) -> Result<(), Refused>
-        requires table { table < length J.plan.tables }
-        requires shard { shard < (table_at J.plan table).shards }
+        requires empty { log.len ≡ 0 }
         ensures only { IfErr result (λ e. e ≡ Refused.NoMemory) }
         ensures given { self.new ≡ self.old }
     {
-        let part = self.start.part();
         let plan = self.shared.plan();
-        let domain = BaseDomain::new(alloc, plan, table, shard, self.sessions, &part)?;
+        let Some((table, _)) = place_of(plan, log.base()) else {
+            unreachable!()
+        };
+        let domain = BaseDomain::new(alloc, plan, table, log, self.sessions)?;
         self.workers.reserve(1)?;
         let shared = Arc::try_clone(&self.shared)?;
         match thread::spawn(&rt, move || base_work(&rt, alloc, &shared, domain)) {
@@ -185,6 +194,7 @@ impl<J: Naming + Send + Sync + 'static> System<J> {
         ensures left { OnOk result (self.old < J.sessions) }
         ensures session { IfOk result (λ s. s.session ≡ self.old) }
         ensures number { IfOk result (λ s. s.number ≡ 0) }
+        ensures answered { IfOk result (λ s. s.answered ≡ 0) }
         ensures unspent { IfOk result (λ s. s.stolen ≡ false) }
         ensures seen { IfOk result (λ s. s.seen ≡ []) }
         ensures floors { IfOk result (λ s. (v j : ℕ) → floor_at s.floors v j ≡ []) }
@@ -194,9 +204,10 @@ impl<J: Naming + Send + Sync + 'static> System<J> {
         }
         let shared = Arc::try_clone(&self.shared)?;
         let reader = self.reader.another()?;
-        let session = Session::new(alloc, self.given, &self.start, reader, shared)?;
+        let accepted = vec![in alloc; None; shared.book().bases()]?;
+        let word = self.words.remove(0);
         self.given += 1;
-        Ok(session)
+        Ok(Session::new(word, accepted, reader, shared))
     }
 
     /// Takes no more messages, lets the threads answer what was sent, and joins them. Later calls

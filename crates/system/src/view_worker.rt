@@ -1,8 +1,6 @@
 //! The thread of a view's shard.
-ghost use Rattle.std.specs.Prelude.{◌≡◌, ◌≢◌, ◌⊎◌, [], true, false, IfOk, OnOk, IfErr, OnErr, IsTrue, IfSome, IsSome, Some, None};
-ghost use Rattle.model.specs.Tables.{with_length};
-ghost use Rattle.model.specs.Histories.{len_at};
-ghost use Rattle.system.specs.Messages.{OnMarker, OnPacket};
+ghost use Rattle.std.specs.Prelude.{◌≡◌, ◌⊎◌, [], true, false, IfOk, OnOk, IfErr, OnErr, IsTrue, IsFalse, IfSome, IsSome, Some, None};
+ghost use Rattle.system.specs.Messages.{Leads, OnMarker, OnPacket, Starts};
 ghost use Rattle.system.specs.Served.{IsSingle};
 ghost use Rattle.view.specs.Boards.{pending, shown};
 
@@ -10,7 +8,6 @@ use crate::shared::{Ack, Shared, ToView};
 use book::cut::Cut;
 use book::law::Naming;
 use domain::packet::BasePacket;
-use plan::plan::Plan;
 use row::refused::Refused;
 use std::alloc::Global;
 use std::mem;
@@ -35,7 +32,7 @@ pub fn view_work<J: Naming, R: Wait + Drop>(
         let Some(message) = shared.next_for_view(rt) else {
             break;
         };
-        let (goes_on, ack) = take(alloc, shared.plan(), &mut writer, running, message);
+        let (goes_on, ack) = take(alloc, shared, &mut writer, running, message);
         running = goes_on;
         if let Some(ack) = ack {
             shared.acknowledge(rt, ack);
@@ -47,25 +44,29 @@ pub fn view_work<J: Naming, R: Wait + Drop>(
 // Takes one message: whether it goes on, and what it acknowledges.
 fn take<J: Naming, R: Wait + Drop>(
     alloc: Global,
-    plan: &Plan,
+    shared: &Shared<J>,
     writer: &mut ShownWriter<J, R>,
     running: bool,
     message: ToView<J>,
 ) -> (bool, Option<Ack>)
-    requires plan { plan.now ≡ J.plan }
     requires single { IsSingle J.plan }
     requires of { ((shown writer.old).view ≡ 0) × ((shown writer.old).shard ≡ 0) }
     requires pending { running ≡ true → pending writer.old ≡ [] }
     ensures of { ((shown writer.new).view ≡ 0) × ((shown writer.new).shard ≡ 0) }
     ensures pending { result.0 ≡ true → pending writer.new ≡ [] }
     ensures stays { result.0 ≡ true → running ≡ true }
-    ensures shown { OnPacket (λ k. result.0 ≡ true → (len_at (shown writer.old).cut.lengths 0 0 ≡ k.from) × ((shown writer.new).cut.lengths ≡ with_length (shown writer.old).cut.lengths 0 0 k.to.len)) message }
-    ensures stopped { OnPacket (λ k. result.0 ≡ false → shown writer.new ≡ shown writer.old) message }
-    ensures unacknowledged { OnPacket (λ k. result.1 ≡ None) message }
+    ensures shown { OnPacket (λ s k. result.0 ≡ true → Leads J.plan (shown writer.old).cut.lengths s k (shown writer.new).cut.lengths) message }
+    ensures stopped { OnPacket (λ s k. result.0 ≡ false → shown writer.new ≡ shown writer.old) message }
+    ensures unacknowledged { OnPacket (λ s k. result.1 ≡ None) message }
     ensures acknowledged { OnMarker (λ m. (result.1 ≡ Some (record { marker = m; running = running })) × (shown writer.new ≡ shown writer.old) × (result.0 ≡ running)) message }
 {
     match message {
-        ToView::Packet(packet) => (running && show(alloc, plan, writer, packet).is_ok(), None),
+        ToView::Packet(source, packet) => {
+            (
+                running && show(alloc, shared, source, packet, writer).is_ok(),
+                None,
+            )
+        }
         ToView::Marker(marker) => (running, Some(Ack { marker, running })),
     }
 }
@@ -74,22 +75,21 @@ fn take<J: Naming, R: Wait + Drop>(
 // `NoMemory`; what is shown is then as it was.
 fn show<J: Naming, R: Wait + Drop>(
     alloc: Global,
-    plan: &Plan,
-    writer: &mut ShownWriter<J, R>,
+    shared: &Shared<J>,
+    source: usize,
     packet: BasePacket<J>,
+    writer: &mut ShownWriter<J, R>,
 ) -> Result<(), Refused>
-    requires plan { plan.now ≡ J.plan }
     requires single { IsSingle J.plan }
     requires of { ((shown writer.old).view ≡ 0) × ((shown writer.old).shard ≡ 0) }
     requires pending { pending writer.old ≡ [] }
     ensures of { ((shown writer.new).view ≡ 0) × ((shown writer.new).shard ≡ 0) }
     ensures pending { OnOk result (pending writer.new ≡ []) }
-    ensures starts { OnOk result (len_at (shown writer.old).cut.lengths 0 0 ≡ packet.from) }
-    ensures shown { OnOk result ((shown writer.new).cut.lengths ≡ with_length (shown writer.old).cut.lengths 0 0 packet.to.len) }
+    ensures shown { OnOk result (Leads J.plan (shown writer.old).cut.lengths source packet (shown writer.new).cut.lengths) }
     ensures err { OnErr result (shown writer.new ≡ shown writer.old) }
-    ensures why { IfErr result (λ e. (e ≡ Refused.NoMemory) ⊎ (e ≡ Refused.Gap) × (len_at (shown writer.old).cut.lengths 0 0 ≢ packet.from)) }
+    ensures why { IfErr result (λ e. (e ≡ Refused.NoMemory) ⊎ (e ≡ Refused.Gap) × ¬ Starts J.plan (shown writer.old).cut.lengths source packet) }
 {
-    let delta = delta_of(alloc, plan, writer.cut(), packet)?;
+    let delta = delta_of(alloc, shared, writer.cut(), source, packet)?;
     writer.append(delta)?;
     writer.publish()?;
     Ok(())
@@ -99,29 +99,46 @@ fn show<J: Naming, R: Wait + Drop>(
 // there, or `NoMemory`.
 fn delta_of<J: Naming>(
     alloc: Global,
-    plan: &Plan,
+    shared: &Shared<J>,
     cut: &Cut<J>,
+    source: usize,
     packet: BasePacket<J>,
 ) -> Result<Delta<J>, Refused>
-    requires plan { plan.now ≡ J.plan }
     requires single { IsSingle J.plan }
     ensures of { IfOk result (λ d. (d.view ≡ 0) × (d.shard ≡ 0)) }
     ensures before { IfOk result (λ d. d.before ≡ cut.now) }
-    ensures starts { OnOk result (len_at cut.now.lengths 0 0 ≡ packet.from) }
-    ensures after { IfOk result (λ d. d.after.lengths ≡ with_length cut.now.lengths 0 0 packet.to.len) }
-    ensures why { IfErr result (λ e. (e ≡ Refused.NoMemory) ⊎ (e ≡ Refused.Gap) × (len_at cut.now.lengths 0 0 ≢ packet.from)) }
+    ensures after { IfOk result (λ d. Leads J.plan cut.now.lengths source packet d.after.lengths) }
+    ensures why { IfErr result (λ e. (e ≡ Refused.NoMemory) ⊎ (e ≡ Refused.Gap) × ¬ Starts J.plan cut.now.lengths source packet) }
 {
-    if cut.lengths().len(0, 0) != packet.from() {
+    if !starts(shared, cut, source, &packet) {
         return Err(Refused::Gap);
     }
+    let plan = shared.plan();
+    plan.keeps_profile();
     let before = cut.try_clone(alloc)?;
     let mut after = cut.try_clone(alloc)?;
-    // The facts of the packet: its front is within one history.
+    // The facts of the cut and of the packet's front: each is within one history.
+    cut.lengths();
     packet.to().len();
-    packet.base();
-    after.advance(0, 0, packet.to());
+    after.advance(0, source, packet.to());
     let (_to, mut changes) = packet.into_parts();
     let (key, stages) = (plan.left().key(), plan.stages());
     changes.retain(|record| record.row.has_shard(key, stages, 0));
     Ok(Delta::new(0, 0, before, after, changes, 0))
+}
+
+// Whether the packet is of this source, and starts where the cut has its log.
+fn starts<J: Naming>(
+    shared: &Shared<J>,
+    cut: &Cut<J>,
+    source: usize,
+    packet: &BasePacket<J>,
+) -> bool
+    ensures yes { IsTrue result → Starts J.plan cut.now.lengths source packet.now }
+    ensures no { IsFalse result → ¬ Starts J.plan cut.now.lengths source packet.now }
+{
+    let sources = shared.sources();
+    source < sources.len()
+        && sources[source] == packet.base()
+        && cut.lengths().len(0, source) == packet.from()
 }

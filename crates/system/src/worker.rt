@@ -20,11 +20,12 @@ pub fn base_work<J: Naming, R: Wait>(
     mut domain: BaseDomain<J>,
 ) {
     let base = domain.base();
+    let source = shared.sources().iter().position(|own| *own == base);
     for _ in rt.forever() {
         let Some(message) = shared.next(rt, base) else {
             break;
         };
-        let Step { onward, reply, ack } = take(alloc, shared.book(), &mut domain, message);
+        let Step { onward, reply, ack } = take(alloc, shared.book(), source, &mut domain, message);
         if let Some(message) = onward {
             let marker = message.marker();
             let sent = pass_on(rt, shared, &mut domain, message);
@@ -69,17 +70,19 @@ struct Step<J: Naming> {
     ack: Option<Ack>,
 }
 
-// Takes one message. A write is answered, and the packet of an accepted entry goes on; it is
-// ignored where it is of another base shard, or its number is not above all of its session in the
+// Takes one message. A write is answered, and the packet of an accepted entry goes on, if the shard
+// is a source of the stage, from its place among those; a write is ignored where it is of another base shard, or its number is not above all of its session in the
 // log. A marker goes on, or is acknowledged where the domain has stopped.
 fn take<J: Naming>(
     alloc: Global,
     book: &Book<J>,
+    source: Option<usize>,
     domain: &mut BaseDomain<J>,
     message: ToBase<J>,
 ) -> Step<J>
     ensures accepted { OnWrite (λ w. IfSome result.reply (λ r. (r.0 ≡ w.session) × IfOk r.1 (λ x. Takes J.plan domain.old w x domain.new))) message }
-    ensures sent { OnWrite (λ w. IfSome result.reply (λ r. IfOk r.1 (λ x. IsSomeAnd result.onward (IsPacket (λ k. Sends J.plan domain.old.front w.entry k domain.new.front))))) message }
+    ensures sent { OnWrite (λ w. IfSome source (λ s. IfSome result.reply (λ r. IfOk r.1 (λ x. IsSomeAnd result.onward (IsPacket (λ of k. (of ≡ s) × Sends J.plan domain.old.front w.entry k domain.new.front)))))) message }
+    ensures silent { OnWrite (λ w. IfNone source (result.onward ≡ None)) message }
     ensures declined { OnWrite (λ w. IfSome result.reply (λ r. IfErr r.1 (λ d. Declines J.plan domain.old w d domain.new × (result.onward ≡ None)))) message }
     ensures ignored { OnWrite (λ w. IfNone result.reply ((domain.new ≡ domain.old) × (result.onward ≡ None))) message }
     ensures late { OnWrite (λ w. IfNone result.reply ((w.base ≢ domain.old.front.base) ⊎ (length domain.old.next ≤ w.session) ⊎ (w.number < slice_index_or domain.old.next w.session 0))) message }
@@ -89,7 +92,7 @@ fn take<J: Naming>(
     ensures stopped { OnBaseMarker (λ m. domain.old.stopped ≡ true → (result.onward ≡ None) × (result.ack ≡ Some (record { marker = m; running = false }))) message }
 {
     match message {
-        ToBase::Write(write) => take_write(alloc, book, domain, write),
+        ToBase::Write(write) => take_write(alloc, book, source, domain, write),
         ToBase::Marker(marker) if domain.is_stopped() => Step {
             onward: None,
             reply: None,
@@ -109,12 +112,14 @@ fn take<J: Naming>(
 fn take_write<J: Naming>(
     alloc: Global,
     book: &Book<J>,
+    source: Option<usize>,
     domain: &mut BaseDomain<J>,
     write: Write<J>,
 ) -> Step<J>
     ensures session { IfSome result.reply (λ r. r.0 ≡ write.session) }
     ensures accepted { IfSome result.reply (λ r. IfOk r.1 (λ w. Takes J.plan domain.old write w domain.new)) }
-    ensures sent { IfSome result.reply (λ r. IfOk r.1 (λ w. IsSomeAnd result.onward (IsPacket (λ k. Sends J.plan domain.old.front write.entry k domain.new.front)))) }
+    ensures sent { IfSome source (λ s. IfSome result.reply (λ r. IfOk r.1 (λ w. IsSomeAnd result.onward (IsPacket (λ of k. (of ≡ s) × Sends J.plan domain.old.front write.entry k domain.new.front))))) }
+    ensures silent { IfNone source (result.onward ≡ None) }
     ensures declined { IfSome result.reply (λ r. IfErr r.1 (λ d. Declines J.plan domain.old write d domain.new × (result.onward ≡ None))) }
     ensures ignored { IfNone result.reply ((domain.new ≡ domain.old) × (result.onward ≡ None)) }
     ensures late { IfNone result.reply ((write.base ≢ domain.old.front.base) ⊎ (length domain.old.next ≤ write.session) ⊎ (write.number < slice_index_or domain.old.next write.session 0)) }
@@ -125,8 +130,8 @@ fn take_write<J: Naming>(
         let session = write.session();
         if let Some(outcome) = domain.receive(alloc, book, write) {
             reply = Some((session, outcome.reply));
-            if let Some(packet) = outcome.packet {
-                onward = Some(ToView::Packet(packet));
+            if let (Some(source), Some(packet)) = (source, outcome.packet) {
+                onward = Some(ToView::Packet(source, packet));
             }
         }
     }

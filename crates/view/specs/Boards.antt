@@ -5,26 +5,24 @@ use Rattle.left_right.specs.declared.Absorb.{Ghosts}
 use Rattle.left_right.specs.declared.writer.Writer.{Writer}
 use Rattle.view.specs.declared.writer.Board.{Board}
 
+-- what readers see, the deltas that they do not see yet, and what the writer has seen of what is shown
+pub record State (T O V : Type 0) : Type 0 where
+  pub shown : T
+  pub pending : List O
+  pub sight : V
+
 module _ {T O V P A S : Type 0} {g : Ghosts T O S} where
-  -- what readers see
-  abbrev pub shown_by : Writer T O V P A S g → T
-  shown_by w = w.desk.shown.value
-
-  -- the deltas that readers do not see yet
-  abbrev pub pending_by : Writer T O V P A S g → List O
-  pending_by w = drop w.behind w.log.items
-
-  -- what the writer has seen of what is shown
-  abbrev pub sight_by : Writer T O V P A S g → V
-  sight_by w = view w.desk.place
+  -- the state of a writer
+  abbrev pub state_by : Writer T O V P A S g → State T O V
+  state_by w = record { shown = w.desk.shown.value; pending = drop w.behind w.log.items; sight = view w.desk.place }
 
 -- the same of a writer that may be dropped
 module _ {T O V P R S : Type 0} {g : Ghosts T O S} where
+  abbrev pub state : Board T O V P R S g → State T O V
+  state w = state_by w.writer
+
   abbrev pub shown : Board T O V P R S g → T
-  shown w = shown_by w.writer
+  shown w = (state w).shown
 
   abbrev pub pending : Board T O V P R S g → List O
-  pending w = pending_by w.writer
-
-  abbrev pub sight : Board T O V P R S g → V
-  sight w = sight_by w.writer
+  pending w = (state w).pending

@@ -1,8 +1,9 @@
 -- What the readers and the writer of a shown copy know of it.
-use Rattle.std.specs.Prelude.{ℕ, ◌≡◌, List, [], ◌∷◌, Option, Some, None, IfSome}
+use Rattle.std.specs.Prelude.{ℕ, ◌≡◌, List, [], ◌∷◌, Option, Some, None, IfSome, fold}
 use mathlib.Core.Option.{some}
 use lib.ListN.{get_elem?}
 use Rattle.model.specs.Cuts.{IsAtMost}
+use Rattle.view.specs.Boards.{State}
 use Rattle.view.specs.Snapshots.{Snapshot, DeltaView, IsLater, Starts, applied}
 
 -- what is shown is no less than what each has seen
@@ -31,3 +32,7 @@ nothing = record { view = 0; shard = 0; cut = record { lengths = []; seen = [] }
 abbrev pub IsOf : ℕ → ℕ → Option Snapshot → Type 0
 IsOf view shard None = ⊥
 IsOf view shard (Some s) = (s.view ≡ view) × (s.shard ≡ shard)
+
+-- all that was pending is shown, and the writer has seen it
+abbrev pub published : State Snapshot DeltaView (Option Snapshot) → State Snapshot DeltaView (Option Snapshot)
+published s = record { shown = fold applied s.shown s.pending; pending = []; sight = Some (fold applied s.shown s.pending) }

@@ -1,8 +1,8 @@
 //! The writer of a shown copy.
 ghost use Rattle.std.specs.Prelude.{◌≡◌, ◌<◌, ◌^◌, ◌++◌, ◌∷◌, [], fold, length, IfOk, IfSome, Some, IfErr, OnOk, OnErr};
 ghost use Rattle.plan.specs.Layouts.{view_at};
-ghost use Rattle.view.specs.Boards.{pending, pending_by, shown, shown_by, sight, sight_by};
-ghost use Rattle.view.specs.Sights.{IsChain};
+ghost use Rattle.view.specs.Boards.{State, pending, shown, state, state_by};
+ghost use Rattle.view.specs.Sights.{IsChain, published};
 ghost use Rattle.view.specs.Snapshots.{Snapshot, IsLater, Starts, applied, zero_lengths};
 
 use crate::delta::Delta;
@@ -76,10 +76,8 @@ impl<J: Naming, R: Wait + Drop> ShownWriter<J, R> {
     pub fn reader(&mut self) -> Result<ShownReader<J>, AllocError>
         ensures view { IfOk result (λ r. r.view ≡ (shown self.old).view) }
         ensures shard { IfOk result (λ r. r.shard ≡ (shown self.old).shard) }
-        ensures told { IfOk result (λ r. IfSome (sight self.old) (λ s. IsLater s r)) }
-        ensures sight { sight self.new ≡ sight self.old }
-        ensures shown { shown self.new ≡ shown self.old }
-        ensures pending { pending self.new ≡ pending self.old }
+        ensures told { IfOk result (λ r. IfSome (state self.old).sight (λ s. IsLater s r)) }
+        ensures stays { state self.new ≡ state self.old }
     {
         let shown = self.writer.published();
         let (view, shard) = (shown.view, shown.shard);
@@ -93,10 +91,9 @@ impl<J: Naming, R: Wait + Drop> ShownWriter<J, R> {
     pub fn append(&mut self, delta: Delta<J>) -> Result<(), AllocError>
         requires chain { IsChain (shown self.old) (pending self.old) }
         requires starts { Starts (fold applied (shown self.old) (pending self.old)) delta }
-        ensures sight { sight self.new ≡ sight self.old }
-        ensures shown { shown self.new ≡ shown self.old }
-        ensures pending { OnOk result (pending self.new ≡ pending self.old ++ delta ∷ []) }
-        ensures err { OnErr result (pending self.new ≡ pending self.old) }
+        ensures pending { OnOk result (state self.new
+            ≡ record (state self.old) { pending = pending self.old ++ delta ∷ [] }) }
+        ensures err { OnErr result (state self.new ≡ state self.old) }
         ensures chain { IsChain (shown self.new) (pending self.new) }
     {
         delta.grows();
@@ -112,14 +109,9 @@ impl<J: Naming, R: Wait + Drop> ShownWriter<J, R> {
     /// the place of each reader.
     pub fn publish(&mut self) -> Result<(), AllocError>
         requires chain { IsChain (shown self.old) (pending self.old) }
-        ensures shown { OnOk result (shown self.new
-            ≡ fold applied (shown self.old) (pending self.old)) }
-        ensures done { OnOk result (pending self.new ≡ []) }
-        ensures err { OnErr result ((shown self.new ≡ shown self.old)
-            × (pending self.new ≡ pending self.old)) }
+        ensures published { OnOk result (state self.new ≡ published (state self.old)) }
+        ensures err { OnErr result (state self.new ≡ state self.old) }
         ensures later { IsLater (shown self.old) (shown self.new) }
-        ensures seen { OnOk result (sight self.new ≡ Some (shown self.new)) }
-        ensures kept { OnErr result (sight self.new ≡ sight self.old) }
     {
         replace_with(
             &mut self.writer,
@@ -136,15 +128,10 @@ fn publish_by<J: Naming, R: Wait>(
     Writer<Shown<J>, Delta<J>, Sight, Published>,
     Result<(), AllocError>,
 )
-    requires chain { IsChain (shown_by writer) (pending_by writer) }
-    ensures shown { OnOk result.1 (shown_by result.0
-        ≡ fold applied (shown_by writer) (pending_by writer)) }
-    ensures done { OnOk result.1 (pending_by result.0 ≡ []) }
-    ensures err { OnErr result.1 ((shown_by result.0 ≡ shown_by writer)
-        × (pending_by result.0 ≡ pending_by writer)) }
-    ensures later { IsLater (shown_by writer) (shown_by result.0) }
-    ensures seen { OnOk result.1 (sight_by result.0 ≡ Some (shown_by result.0)) }
-    ensures kept { OnErr result.1 (sight_by result.0 ≡ sight_by writer) }
+    requires chain { IsChain (state_by writer).shown (state_by writer).pending }
+    ensures published { OnOk result.1 (state_by result.0 ≡ published (state_by writer)) }
+    ensures err { OnErr result.1 (state_by result.0 ≡ state_by writer) }
+    ensures later { IsLater (state_by writer).shown (state_by result.0).shown }
 {
     writer.publish_as::<Looks, R>(rt)
 }

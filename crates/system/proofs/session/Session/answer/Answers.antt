@@ -1,4 +1,4 @@
-use Rattle.std.proofs.Common.{◌≡◌, ℕ, ◌+◌, true, sym, ap, ◌∙◌, arith, inl, inr, refl}
+use Rattle.std.proofs.Common.{ℕ, ◌+◌, true, ap, ◌∙◌, arith, inr, refl}
 use Rattle.model.proofs.Prefixes.{prefix_trans}
 use Rattle.row.specs.Cells.{datum_of}
 use Rattle.model.specs.Histories.{Floors}
@@ -44,7 +44,9 @@ returns-in-Ok-clause-read g c =
     let rows = rw (← c.self.view_is) at c.requires.rows in
     let set = (ap (λ (x : SessionView). x.floors) told.stays) ∙ ap (λ (f : Floors). with_floor f c.args.view 0 c.args.cut.lengths) (ap (λ (x : SessionView). x.floors) c.learn.ensures.stays) in
     let item = rw ((ap (λ (x : SessionView). x.session) c.learn.ensures.stays)) at told.item in
-    rw (← c.self.view_is, c.part.ensures.part, session, lengths) (read_done p _ c.args.view (datum_of c.args.key.now) c.args.rows.items c.args.cut.lengths c.learn.new.self.seen h c.answer-answered.new.self.floors c.self.invariant.2 view c.learn.ensures.others item rows cut set)
+    let answered = (ap (λ (x : SessionView). x.answered) told.stays) ∙ ap (λ n. n + 1) (ap (λ (x : SessionView). x.answered) c.learn.ensures.stays) in
+    let once = rw ((ap (λ (x : SessionView). x.session) c.learn.ensures.stays), (ap (λ (x : SessionView). x.answered) c.learn.ensures.stays)) at told.counted in
+    rw (← c.self.view_is, c.part.ensures.part, session, answered, lengths) (read_done p _ c.args.view (datum_of c.args.key.now) c.args.rows.items c.args.cut.lengths c.learn.new.self.seen h c.answer-answered.new.self.floors c.self.invariant.2 view c.learn.ensures.others once item rows cut set)
 
 pub returns-in-Err-clause-refused : goal.returns-in-Err-clause-refused
 returns-in-Err-clause-refused g c =
@@ -53,4 +55,5 @@ returns-in-Err-clause-refused g c =
     let grown = prefix_trans c.self.inside.seen c.learn.new.self.seen h c.learn.ensures.others told.grown in
     let session = (ap (λ (x : SessionView). x.session) told.stays) ∙ (ap (λ (x : SessionView). x.session) c.learn.ensures.stays) in
     let floors = (ap (λ (x : SessionView). x.floors) told.stays) ∙ (ap (λ (x : SessionView). x.floors) c.learn.ensures.stays) in
-    rw (← c.self.view_is, c.part.ensures.part, session, floors) (record { after = refl; looked = later_self _; number = inr refl; grown = grown; why = inr (refl, refl) })
+    let answered = (ap (λ (x : SessionView). x.answered) told.stays) ∙ (ap (λ (x : SessionView). x.answered) c.learn.ensures.stays) in
+    rw (← c.self.view_is, c.part.ensures.part, session, answered, floors) (record { after = refl; looked = later_self _; number = inr refl; grown = grown; why = inr (refl, refl) })

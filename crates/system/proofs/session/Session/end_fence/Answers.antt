@@ -8,6 +8,11 @@ use Rattle.system.proofs.Looks.{looks_fenced, looks_later}
 use Rattle.system.proofs.Fences.{floors_rise, own_written, own_past, caller_fenced, each_reached_later, added_grows, fenced}
 use Rattle.system.proofs.session.Session.end_fence.Goals as goal
 
+pub fence-fenced-requires-clause-floors : goal.fence-fenced-requires-clause-floors
+fence-fenced-requires-clause-floors g c =
+    let all = rw (← c.self.view_is) at c.requires.all in
+    rw (ap (λ (x : SessionView). x.floors) c.learn.ensures.stays, c.in-Ok-even.ensures.floors) (floors_rise g.J.Naming.plan _ c.args.fronts.now c.self.invariant.0 c.requires.bases all)
+
 pub fence-fenced-requires-clause-past : goal.fence-fenced-requires-clause-past
 fence-fenced-requires-clause-past g c =
     let all = rw (← c.self.view_is) at c.requires.all in
@@ -39,7 +44,9 @@ returns-in-Ok-fenced-clause-fenced g c =
     let session = (ap (λ (x : SessionView). x.session) told.stays) ∙ (ap (λ (x : SessionView). x.session) c.learn.ensures.stays) in
     let even = (ap (λ (x : SessionView). x.floors) told.stays) ∙ c.in-Ok-even.ensures.floors in
     let added = rw ((ap (λ (x : SessionView). x.session) c.learn.ensures.stays), ← (ap (λ (x : SessionView). x.floors) told.stays)) at told.item in
-    rw (← c.self.view_is, c.part.ensures.part, session) (fenced p _ c.learn.new.self.seen h c.fence-fenced.new.self.floors (places_of c.in-Ok.own.items) c.args.fronts.now _ (later_self _) c.learn.ensures.others c.in-Ok.ensures even c.requires.bases all (rw (← c.self.view_is) at c.requires.shown) added)
+    let answered = (ap (λ (x : SessionView). x.answered) told.stays) ∙ ap (λ n. n + 1) (ap (λ (x : SessionView). x.answered) c.learn.ensures.stays) in
+    let once = rw ((ap (λ (x : SessionView). x.session) c.learn.ensures.stays), (ap (λ (x : SessionView). x.answered) c.learn.ensures.stays)) at told.counted in
+    rw (← c.self.view_is, c.part.ensures.part, session, answered) (fenced p _ c.learn.new.self.seen h c.fence-fenced.new.self.floors (places_of c.in-Ok.own.items) c.args.fronts.now _ (later_self _) c.learn.ensures.others once c.in-Ok.ensures even c.requires.bases all (rw (← c.self.view_is) at c.requires.shown) added)
 
 pub invariant_of-self-in-Err : goal.invariant_of-self-in-Err
 invariant_of-self-in-Err g c =

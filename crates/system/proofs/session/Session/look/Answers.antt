@@ -1,5 +1,4 @@
-use Rattle.std.proofs.Common.{◌≡◌, refl}
-use Rattle.row.specs.Cells.{datum_of}
+use Rattle.std.proofs.Common.{refl}
 use Rattle.system.proofs.Looks.{looked_read}
 use Rattle.system.proofs.session.Session.look.Goals as goal
 

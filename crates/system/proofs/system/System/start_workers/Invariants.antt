@@ -1,8 +1,13 @@
-use Rattle.std.proofs.Common.{◌≡◌}
+use Rattle.std.proofs.Common.{◌≡◌, length}
+use Rattle.row.specs.Bags.{Each}
+use Rattle.book.specs.Fronts.{FrontView}
 use Rattle.system.proofs.system.System.start_workers.Given as goal
 
-abbrev pub invariant-loop-table : goal.invariant-loop-table
-invariant-loop-table g l = l.self ≡ l.fn.self
+abbrev pub invariant-loop-log : goal.invariant-loop-log
+invariant-loop-log g l = record {
+  self : l.self ≡ l.fn.self;
+  empty : Each (λ (f : FrontView). f.len ≡ 0) l.logs.items;
+}
 
-abbrev pub invariant-loop-shard : goal.invariant-loop-shard
-invariant-loop-shard g l = l.self ≡ l.fn.self
+abbrev pub decreases-loop-log : goal.decreases-loop-log
+decreases-loop-log g l = length l.logs.items

@@ -3,7 +3,7 @@ use Rattle.model.specs.Entries.{change_of}
 use Rattle.view.proofs.Rises.{later_self}
 use Rattle.system.proofs.Looks.{looks_later}
 use Rattle.system.proofs.Callers.{caller_later, caller_taken, taken, answer_grows}
-use Rattle.system.proofs.session.Session.write.Goals as goal
+use Rattle.system.proofs.session.Session.send.Goals as goal
 
 pub invariant_of-self : goal.invariant_of-self
 invariant_of-self g c =

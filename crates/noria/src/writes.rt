@@ -1,0 +1,87 @@
+//! Writes to a table: a row or a key of its words, and the line of an answer.
+ghost use Rattle.std.specs.Prelude.{◌≡◌};
+ghost use Rattle.noria.specs.Keys.{kind_of_table};
+
+use crate::fault::Fault;
+use book::law::Naming;
+use plan::kinds::Kind;
+use plan::plan::Plan;
+use row::refused::Refused;
+use row::row::Row;
+use script::cell::value_of;
+use std::alloc::Global;
+use std::io::{self, Write};
+use std::sync::Wait;
+use system::session::{Accepted, Session};
+
+/// The words of a write behind its table: the cells of a row, or a key.
+#[derive(Drop)]
+pub enum Words {
+    Insert(Vec<String>),
+    Update(Vec<String>),
+    Delete(String),
+}
+
+/// Makes the write that the words ask for.
+pub fn write<J: Naming, R: Wait>(
+    rt: &R,
+    alloc: Global,
+    session: &mut Session<J>,
+    table: &str,
+    words: Words,
+) -> Result<Accepted, Refused> {
+    match words {
+        Words::Insert(cells) => {
+            let row = row_of_words(alloc, session.plan(), table, cells)?;
+            session.insert(rt, alloc, table, row)
+        }
+        Words::Update(cells) => {
+            let row = row_of_words(alloc, session.plan(), table, cells)?;
+            session.update(rt, alloc, table, row)
+        }
+        Words::Delete(word) => {
+            let key = value_of(alloc, kind_of_table(session.plan(), table), word)?;
+            session.delete(rt, alloc, table, key)
+        }
+    }
+}
+
+// Each word is read by its column; where there is no such column it is a text.
+fn row_of_words(
+    alloc: Global,
+    plan: &Plan,
+    table: &str,
+    words: Vec<String>,
+) -> Result<Row, Refused> {
+    let table = plan.table_named(table).map(|place| plan.table(place));
+    let mut cells = Vec::new(alloc);
+    for word in words {
+        let kind = table.and_then(|table| table.kind(cells.len()));
+        cells.push(value_of(alloc, kind.unwrap_or(Kind::Text), word)?)?;
+    }
+    Ok(Row::new(cells))
+}
+
+// The kind by which a key of the table is read: that of its key column, and a text where there is no
+// such table.
+fn kind_of_table(plan: &Plan, table: &str) -> Kind
+    ensures { result ≡ kind_of_table plan.now table.now }
+{
+    let Some(place) = plan.table_named(table) else {
+        return Kind::Text;
+    };
+    let table = plan.table(place);
+    table.kind(table.key()).unwrap_or(Kind::Text)
+}
+
+/// Writes `accepted TABLE.SHARD INDEX`, or the refusal.
+pub fn write_accepted<O: Write>(
+    table: &str,
+    answer: Result<Accepted, Refused>,
+    out: &mut O,
+) -> io::Result<()> {
+    match answer {
+        Ok(Accepted { shard, index, .. }) => writeln!(out, "accepted {table}.{shard} {index}"),
+        Err(refused) => writeln!(out, "{}", Fault::Refused(refused)),
+    }
+}
