@@ -2,7 +2,7 @@
 use crate::plans::{CLICKS, side};
 use crate::words::{records, row, rows, value, written, written_records};
 use ops::filter;
-use ops::shape::{Shape, delta_of, delta_of_key};
+use ops::shape::{Shape, delta_of};
 use ops::total::all_fit_64_bits;
 use plan::kinds::Aggregate;
 use std::alloc::{AllocError, Global};
@@ -47,38 +47,35 @@ const REMADE: [(Shape, &str, &str, &str); 8] = [
     (SUM, "5 -1", "5 -1;6 0;7 4", "-1 7 -1;+1 7 3"),
 ];
 
-fn made_anew(alloc: Global, shape: Shape, before: &str, after: &str) -> Result<String, AllocError> {
+fn made_anew(
+    alloc: Global,
+    shape: Shape,
+    left: &str,
+    before: &str,
+    after: &str,
+) -> Result<String, AllocError> {
     let (before, after) = (rows(alloc, before)?, rows(alloc, after)?);
     let aggregate = shape.aggregate_of_partners();
     if !all_fit_64_bits(aggregate, &before) || !all_fit_64_bits(aggregate, &after) {
         return String::from_str(alloc, "not told");
     }
-    let changes = delta_of(alloc, shape, &row(alloc, "1 7")?, &before, &after)?;
+    let changes = delta_of(alloc, shape, &row(alloc, left)?, &before, &after)?;
     written_records(alloc, &changes)
 }
 
 #[test]
 fn a_left_row_gives_anew_what_changed(rt: HostRuntime) -> Result<(), Fail> {
     for (at, (shape, before, after, want)) in REMADE.iter().enumerate() {
-        let found = made_anew(rt.alloc(), *shape, before, after)?;
+        let found = made_anew(rt.alloc(), *shape, "1 7", before, after)?;
         assert!(rt; found.as_str() == *want, "case {at}: {found}");
     }
     Ok(())
 }
 
-fn group_made_anew(alloc: Global, before: &str, after: &str) -> Result<String, AllocError> {
-    let sum = Aggregate::Sum(2);
-    let (before, after) = (rows(alloc, before)?, rows(alloc, after)?);
-    if !all_fit_64_bits(Some(sum), &before) || !all_fit_64_bits(Some(sum), &after) {
-        return String::from_str(alloc, "not told");
-    }
-    let changes = delta_of_key(alloc, sum, &value(alloc, "home")?, &before, &after)?;
-    written_records(alloc, &changes)
-}
-
 #[test]
 fn a_group_gives_anew_what_changed(rt: HostRuntime) -> Result<(), Fail> {
-    let found = group_made_anew(rt.alloc(), "1 home 5;3 home 7", "3 home 7")?;
+    let group = Shape::Group(Aggregate::Sum(2));
+    let found = made_anew(rt.alloc(), group, "home", "1 home 5;3 home 7", "3 home 7")?;
     assert!(rt; found.as_str() == "-home 12;+home 7", "{found}");
     Ok(())
 }

@@ -66,10 +66,8 @@ fn record(alloc: Global, text: &str) -> Result<Record, AllocError> {
 /// Records with `;` between each two; no text is no record.
 pub fn records(alloc: Global, text: &str) -> Result<Vec<Record>, AllocError> {
     let mut all = Vec::new(alloc);
-    for words in text.split(';') {
-        if !words.is_empty() {
-            all.push(record(alloc, words)?)?;
-        }
+    for words in text.split_terminator(';') {
+        all.push(record(alloc, words)?)?;
     }
     Ok(all)
 }

@@ -1,35 +1,47 @@
-//! A book that is opened, words that two writers share, and cuts.
-ghost use Rattle.std.specs.Prelude.{◌≡◌, ℕ, [], ◌∷◌, IfOk, codes, pos};
-ghost use Rattle.row.specs.Cells.{int, text};
+//! A book that is opened, what its log and its word take, and cuts.
+ghost use Rattle.std.specs.Prelude.{◌≡◌};
 ghost use Rattle.plan.specs.Recipes.{notes_plan};
-ghost use Rattle.model.specs.Histories.{floor_at};
+ghost use Rattle.book.specs.Rights.{empty_front, IsFresh};
 
-use book::book::{Book, Opened};
+use crate::fronts::{note, takes_one};
+use book::book::{Book, Opened, Rights};
 use book::cut::{Cut, Cuts};
 use book::front::Front;
 use book::law::Naming;
+use book::log::Log;
+use book::part::Part;
 use book::session::SessionWord;
 use model::entry::Entry;
 use model::lengths::Lengths;
 use plan::plan::Plan;
-use row::row::Row;
 use row::value::Value;
 use std::alloc::{AllocError, Global};
 use std::marker::Brand;
 use std::test::Fail;
 
+const SCENES: [Scene; 6] = [
+    Scene::Append,
+    Scene::AppendAsFront,
+    Scene::Write,
+    Scene::Answer,
+    Scene::Fence,
+    Scene::Zeros,
+];
+
 /// What is done with an open book.
 #[derive(Clone, Copy, Debug, Drop)]
 enum Scene {
     Append,
+    AppendAsFront,
+    Write,
     Answer,
     Fence,
     Zeros,
 }
 
 #[test]
-fn words_take_one_of_two_items(rt: HostRuntime) -> Result<(), Fail> {
-    for scene in [Scene::Append, Scene::Answer, Scene::Fence, Scene::Zeros] {
+fn words_take_what_is_added(rt: HostRuntime) -> Result<(), Fail> {
+    for scene in SCENES {
         assert!(rt; is_right(rt.alloc(), scene)?, "{scene:?}");
     }
     Ok(())
@@ -53,82 +65,80 @@ fn run<J: Naming>(
     requires sessions { (opened.sessions ≡ J.sessions) × (J.sessions ≡ 1) }
     requires notes { J.plan ≡ notes_plan }
 {
-    let (book, front) = opened.named::<J>(0);
+    let Rights {
+        book,
+        start,
+        mut logs,
+        mut words,
+    } = opened.named::<J>(alloc, plan)?;
+    if logs.len() != 1 || words.len() != 1 {
+        return Ok(false);
+    }
     match scene {
-        Scene::Append => appends_once(alloc, &book, &front),
-        Scene::Answer | Scene::Fence => {
-            let one = adds(alloc, plan, &book, &front, scene)?;
-            Ok(one && !adds(alloc, plan, &book, &front, scene)?)
-        }
-        Scene::Zeros => has_zeros(alloc, plan, &front),
+        Scene::Append | Scene::Write => takes(alloc, &book, &start, logs.remove(0), scene),
+        Scene::AppendAsFront => takes_one::<Front<J>>(alloc, &book, &mut logs.remove(0)),
+        Scene::Answer | Scene::Fence => adds(alloc, plan, &book, &start, words.remove(0), scene),
+        Scene::Zeros => has_zeros(alloc, plan, &start),
     }
 }
 
-fn note(alloc: Global) -> Result<Row, AllocError>
-    ensures { IfOk result (λ r. r ≡ int (pos 1) ∷ int (pos 7) ∷ text (codes "a") ∷ []) }
-{
-    let mut cells = Vec::new(alloc);
-    cells.push(Value::Int(1))?;
-    cells.push(Value::Int(7))?;
-    cells.push(Value::Text(String::from_str(alloc, "a")?))?;
-    Ok(Row::new(cells))
-}
-
-/// Whether the note is taken at the empty front of the only shard, as the first entry.
-fn appends<J: Naming>(book: &Book<J>, front: &mut Front<J>, session: u64, row: Row) -> bool
+/// Whether the log, which has no entry, takes the note, and a front then sees that.
+fn takes<J: Naming>(
+    alloc: Global,
+    book: &Book<J>,
+    start: &Part<J>,
+    mut log: Log<J>,
+    scene: Scene,
+) -> Result<bool, AllocError>
     requires notes { J.plan ≡ notes_plan }
-    requires front { front.old ≡ record { base = 0; len = 0; seen = [] } }
-    requires row { row ≡ int (pos 1) ∷ int (pos 7) ∷ text (codes "a") ∷ [] }
+    requires log { log ≡ empty_front 0 }
 {
-    match front.write(book, session, 0, Entry::Insert(row)) {
-        Ok(reply) => reply.index() == 0,
-        Err(_) => false,
-    }
+    let entry = Entry::Insert(note(alloc)?);
+    let is_taken = if let Scene::Write = scene {
+        log.write(book, 0, 0, entry)
+            .is_ok_and(|reply| reply.index() == 0)
+    } else {
+        log.append(book, 0, 0, &entry).is_ok()
+    };
+    Ok(is_taken && has_one(book, log) && catches_up(book, start.front(0)))
+}
+
+/// Whether the log has one entry, and its front too.
+fn has_one<J: Naming>(book: &Book<J>, mut log: Log<J>) -> bool {
+    let there = log.look(book);
+    log.part().is_legal();
+    let front = log.front();
+    there == 1 && log.base() == 0 && log.len() == 1 && front.base() == 0 && front.len() == 1
 }
 
 /// Whether the front, which has no entry, sees that there is one, and takes it.
-fn catches_up<J: Naming>(book: &Book<J>, front: &mut Front<J>) -> bool {
+fn catches_up<J: Naming>(book: &Book<J>, mut front: Front<J>) -> bool {
     let before = front.len();
     let there = front.look(book);
     front.catch_up(book);
     before == 0 && there == 1 && front.len() == 1
 }
 
-fn appends_once<J: Naming>(
-    alloc: Global,
-    book: &Book<J>,
-    front: &Front<J>,
-) -> Result<bool, AllocError>
-    requires notes { J.plan ≡ notes_plan }
-    requires front { front.now ≡ record { base = 0; len = 0; seen = [] } }
-{
-    let mut second = front.again();
-    let one = appends(book, &mut front.again(), 0, note(alloc)?);
-    let other = appends(book, &mut second, 1, note(alloc)?);
-    Ok(one && !other && catches_up(book, &mut second))
-}
-
-/// Whether a new word of the session takes a fence, or else a read of key 7, over the empty front
-/// of the only source.
+/// Whether the word of a session takes a fence, or else a read of key 7, over the empty front of the
+/// only source.
 fn adds<J: Naming>(
     alloc: Global,
     plan: &Plan,
     book: &Book<J>,
-    front: &Front<J>,
+    start: &Part<J>,
+    mut word: SessionWord<J>,
     scene: Scene,
 ) -> Result<bool, AllocError>
     requires plan { (plan.now ≡ J.plan) × (J.plan ≡ notes_plan) }
-    requires sessions { J.sessions ≡ 1 }
-    requires front { (front.now.base ≡ 0) × (front.now.len ≡ 0) }
+    requires word { IsFresh 0 word }
 {
-    let mut word = SessionWord::first(alloc, plan, 0, front)?;
     let mut fronts = Vec::new(alloc);
-    fronts.push(front.again())?;
+    fronts.push(start.front(0))?;
     if let Scene::Fence = scene {
-        let cuts = Cuts::even(alloc, plan, &front.part(), fronts.as_slice())?;
+        let cuts = Cuts::even(alloc, plan, start, fronts.as_slice())?;
         Ok(word.fence(book, &Vec::new(alloc), cuts).is_ok())
     } else {
-        let cut = Cut::even(alloc, plan, &front.part(), fronts.as_slice())?;
+        let cut = Cut::even(alloc, plan, start, fronts.as_slice())?;
         let answered = word.answer(book, 0, 0, &Value::Int(7), &Vec::new(alloc), cut);
         Ok(answered.is_ok())
     }
@@ -139,10 +149,10 @@ fn is_printed(alloc: Global, lengths: &Lengths, text: &str) -> Result<bool, Allo
 }
 
 /// Whether a copy of the cut at which nothing is seen has the length 0 of the only source.
-fn has_zeros<J: Naming>(alloc: Global, plan: &Plan, front: &Front<J>) -> Result<bool, AllocError>
+fn has_zeros<J: Naming>(alloc: Global, plan: &Plan, start: &Part<J>) -> Result<bool, AllocError>
     requires plan { plan.now ≡ J.plan }
 {
-    let cut = Cut::zeros(alloc, plan, &front.part())?;
+    let cut = Cut::zeros(alloc, plan, start)?;
     let copy = cut.try_clone(alloc)?;
     Ok(copy.agrees(&cut) && is_printed(alloc, copy.lengths(), "0")?)
 }

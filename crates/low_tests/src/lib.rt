@@ -1,11 +1,15 @@
-//! Tests of `row`, `plan` and `book`: that calls which take memory succeed, and examples whose
-//! answers are known from outside the code.
+//! Tests of `row`, `plan`, `model`, `packet`, `base_domain` and `book`: that calls which take memory
+//! succeed, and examples whose answers are known from outside the code.
 #![tactic(auto)]
 
 #[cfg(test)]
 mod books;
 #[cfg(test)]
 mod cells;
+#[cfg(test)]
+mod fronts;
+#[cfg(test)]
+mod packets;
 #[cfg(test)]
 mod plans;
 #[cfg(test)]

@@ -1,13 +1,13 @@
 //! The calls of a session with no clause, so that the proof of a test does not carry what each says.
 use crate::notes::note;
 use book::law::Naming;
+use model::entry::Entry;
 use row::refused::Refused;
-use row::row::Row;
 use row::value::Value;
 use std::alloc::{AllocError, Global};
 use std::sync::Wait;
 use std::test::Fail;
-use system::read::{Answer, Found};
+use system::read::Found;
 use system::session::{Accepted, Session};
 use system::system::System;
 
@@ -31,14 +31,18 @@ pub fn next<J: Naming + Send + Sync + 'static>(
     system.session(alloc)
 }
 
-pub fn insert<J: Naming, R: Wait>(
+pub fn write<J: Naming, R: Wait>(
     rt: &R,
     alloc: Global,
     session: &mut Session<J>,
     table: &str,
-    row: Row,
+    entry: Entry,
 ) -> Result<Accepted, Refused> {
-    session.insert(rt, alloc, table, row)
+    match entry {
+        Entry::Insert(row) => session.insert(rt, alloc, table, row),
+        Entry::Update(row) => session.update(rt, alloc, table, row),
+        Entry::Delete(key) => session.delete(rt, alloc, table, key),
+    }
 }
 
 pub fn fence<J: Naming, R: Wait>(
@@ -49,22 +53,19 @@ pub fn fence<J: Naming, R: Wait>(
     session.fence(rt, alloc)
 }
 
-pub fn read<J: Naming>(
+// Reads the rows of the key, or only where they are shown.
+pub fn look<J: Naming>(
     alloc: Global,
     session: &mut Session<J>,
     view: &str,
     key: &Value,
-) -> Result<Answer, Refused> {
-    session.read(alloc, view, key)
-}
-
-pub fn try_read<J: Naming>(
-    alloc: Global,
-    session: &mut Session<J>,
-    view: &str,
-    key: &Value,
+    waits: bool,
 ) -> Result<Found, Refused> {
-    session.try_read(alloc, view, key)
+    if waits {
+        Ok(Found::Hit(session.read(alloc, view, key)?))
+    } else {
+        session.try_read(alloc, view, key)
+    }
 }
 
 pub fn meet<J: Naming>(first: &mut Session<J>, second: &mut Session<J>) {
@@ -79,7 +80,7 @@ pub fn add<J: Naming, R: Wait>(
     id: i128,
     author: i128,
 ) -> Result<u64, Refused> {
-    let row = note(alloc, id, author)?;
-    let accepted = insert(rt, alloc, session, "notes", row)?;
+    let entry = Entry::Insert(note(alloc, id, author)?);
+    let accepted = write(rt, alloc, session, "notes", entry)?;
     Ok(accepted.index)
 }

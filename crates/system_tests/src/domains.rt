@@ -1,13 +1,14 @@
 //! The domain of a base shard of notes, called with messages of two sessions.
 ghost use Rattle.std.specs.Prelude.{◌≡◌, IfOk};
 ghost use Rattle.plan.specs.Recipes.{notes_plan};
+ghost use Rattle.book.specs.Rights.{empty_front};
 
 use crate::calls::{fail, wrong};
 use crate::notes::{Change, Signed, are_signed, entry_of};
 use crate::runs::{Scene, run};
-use book::book::{Book, Opened};
+use book::book::{Book, Opened, Rights};
 use book::law::Naming;
-use book::part::Part;
+use book::log::Log;
 use domain::base_domain::{BaseDomain, Outcome};
 use domain::message::Write;
 use domain::packet::BasePacket;
@@ -78,75 +79,67 @@ fn writes_of_two_sessions(rt: HostRuntime) -> Result<(), Fail> {
     run(rt, rt.alloc(), 2, Scene::Messages)
 }
 
-// A domain answers the messages, and another one of the same shard finds their word moved.
+// The domain of the only log answers the messages.
 pub fn takes_messages<J: Naming>(alloc: Global, opened: Opened, plan: &Plan) -> Result<(), Fail>
     requires book { opened.book ≡ J.book }
     requires plan { (opened.plan ≡ J.plan) × (plan.now ≡ J.plan) × (J.plan ≡ notes_plan) }
     requires sessions { opened.sessions ≡ J.sessions }
 {
-    let (book, front) = opened.named::<J>(0);
-    let mut bases = begun(alloc, plan, &front.part())?;
-    bases.take_all(alloc, &book)
+    let Rights { book, mut logs, .. } = opened.named::<J>(alloc, plan)?;
+    if logs.len() != 1 {
+        return Err(wrong(0));
+    }
+    let mut base = begun(alloc, plan, logs.remove(0))?;
+    base.take_all(alloc, &book)
 }
 
-/// Two domains of the only base shard of notes.
+/// The domain of the only base shard of notes.
 #[derive(Drop)]
-struct Bases<J: Naming> {
-    first: BaseDomain<J>,
-    other: BaseDomain<J>,
+struct NotesBase<J: Naming> {
+    domain: BaseDomain<J>,
 }
 
-impl<J: Naming> Model for Bases<J> {
+impl<J: Naming> Model for NotesBase<J> {
     ghost use Rattle.std.specs.Prelude.{◌≡◌, Bool};
     ghost use Rattle.plan.specs.Recipes.{notes_plan};
 
     ghost Value = { Bool };
 
-    // Whether the first has stopped.
-    ghost view = { λ b. b.first.stopped };
+    // Whether it has stopped.
+    ghost view = { λ b. b.domain.stopped };
 
-    ghost invariant = { λ b. (J.plan ≡ notes_plan) × (b.first.front.base ≡ 0)
-        × (b.other.front.base ≡ 0) };
+    ghost invariant = { λ b. (J.plan ≡ notes_plan) × (b.domain.front.base ≡ 0) };
 }
 
-fn begun<J: Naming>(alloc: Global, plan: &Plan, part: &Part<J>) -> Result<Bases<J>, AllocError>
-    requires { (plan.now ≡ J.plan) × (J.plan ≡ notes_plan) }
+fn begun<J: Naming>(alloc: Global, plan: &Plan, log: Log<J>) -> Result<NotesBase<J>, AllocError>
+    requires plan { (plan.now ≡ J.plan) × (J.plan ≡ notes_plan) }
+    requires log { log ≡ empty_front 0 }
 {
-    let first = BaseDomain::new(alloc, plan, 0, 0, 2, part)?;
-    let other = BaseDomain::new(alloc, plan, 0, 0, 2, part)?;
-    Ok(Bases { first, other })
+    let domain = BaseDomain::new(alloc, plan, 0, log, 2)?;
+    Ok(NotesBase { domain })
 }
 
-impl<J: Naming> Bases<J> {
-    // The messages, one more once the first domain has stopped, and the same for the other one,
-    // which stops where the word has moved.
+impl<J: Naming> NotesBase<J> {
+    // The messages, and one more once the domain has stopped.
     fn take_all(&mut self, alloc: Global, book: &Book<J>) -> Result<(), Fail> {
         for (place, message) in MESSAGES.iter().enumerate() {
             if !self.answers(alloc, book, *message)? {
                 return Err(wrong(place));
             }
         }
-        self.first.stop();
-        if self.answers(alloc, book, LATE)? && self.stops(alloc, book)? {
+        self.domain.stop();
+        if self.answers(alloc, book, LATE)? && self.has_stopped() {
             Ok(())
         } else {
             Err(wrong(MESSAGES.len()))
         }
     }
 
-    // Whether the first domain answers the message as wanted.
+    // Whether the domain answers the message as wanted.
     fn answers(&mut self, alloc: Global, book: &Book<J>, message: Message) -> Result<bool, Fail> {
         let (session, number, change, wanted) = message;
         let write = self.write(alloc, session, number, change)?;
         is_wanted(self.receive(alloc, book, write), wanted)
-    }
-
-    // Whether the other domain answers that it has stopped, and has.
-    fn stops(&mut self, alloc: Global, book: &Book<J>) -> Result<bool, Fail> {
-        let (session, number, change, wanted) = LATE;
-        let write = self.write(alloc, session, number, change)?;
-        let is_told = is_wanted(self.receive_by_other(alloc, book, write), wanted)?;
-        Ok(is_told && self.has_other_stopped())
     }
 
     fn write(
@@ -158,7 +151,7 @@ impl<J: Naming> Bases<J> {
     ) -> Result<Write<J>, AllocError>
         ensures { IfOk result (λ w. w.base ≡ 0) }
     {
-        let _first = &self.first;
+        let _domain = &self.domain;
         let entry = entry_of(alloc, change)?;
         Ok(Write::new(0, session, u64::from(number), entry))
     }
@@ -166,24 +159,12 @@ impl<J: Naming> Bases<J> {
     fn receive(&mut self, alloc: Global, book: &Book<J>, write: Write<J>) -> Option<Outcome<J>>
         requires { write.base ≡ 0 }
     {
-        self.first.receive(alloc, book, write)
+        self.domain.receive(alloc, book, write)
     }
 
-    fn receive_by_other(
-        &mut self,
-        alloc: Global,
-        book: &Book<J>,
-        write: Write<J>,
-    ) -> Option<Outcome<J>>
-        requires { write.base ≡ 0 }
-    {
-        self.other.receive(alloc, book, write)
-    }
-
-    // Whether each domain has stopped, the other one at an empty front.
-    fn has_other_stopped(&self) -> bool {
-        let has_first = self.first.is_stopped() && self.first.front().len() == 4;
-        has_first && self.other.is_stopped() && self.other.front().len() == 0
+    // Whether it has stopped, after its four entries.
+    fn has_stopped(&self) -> bool {
+        self.domain.is_stopped() && self.domain.base() == 0 && self.domain.front().len() == 4
     }
 }
 

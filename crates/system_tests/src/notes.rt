@@ -68,7 +68,8 @@ fn is_at(records: &[Record], place: usize, (sign, id, author): Signed) -> bool {
     }
 }
 
-fn is_note(row: &Row, id: u8, author: u8) -> bool {
+/// Whether this is the author's note of the id.
+pub fn is_note(row: &Row, id: u8, author: u8) -> bool {
     row.has(0, &Value::Int(i128::from(id))) && row.has(1, &Value::Int(i128::from(author)))
 }
 

@@ -46,6 +46,11 @@ const OF_ONE: &[Step] = &[
     (Call::TryRead("by_author", 9), Ok(Told::Rows(3, 0))),
     (Call::TryRead("nope", 7), Err(Refused::UnknownView)),
     (Call::ReadText, Err(Refused::BadKey)),
+    (Call::Update(3, 7), Err(Refused::Absent)),
+    (Call::Update(2, 8), Ok(Told::Index(3))),
+    (Call::Delete(0), Ok(Told::Index(4))),
+    (Call::Delete(0), Err(Refused::Absent)),
+    (Call::DeleteText, Err(Refused::BadKey)),
 ];
 
 const BEFORE_STOP: &[Step] = &[

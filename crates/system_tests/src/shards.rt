@@ -1,15 +1,18 @@
 //! A base shard, one entry after another.
-ghost use Rattle.std.specs.Prelude.{◌≡◌};
+ghost use Rattle.std.specs.Prelude.{◌≡◌, ◌≢◌};
 ghost use Rattle.model.specs.Entries.{change_of};
 ghost use Rattle.base.specs.Shards.{HasKey};
 
 use crate::calls::{fail, wrong};
-use crate::notes::{Change, Signed, are_signed, entry_of};
+use crate::notes::{Change, Signed, are_signed, entry_of, is_note};
+use base::part::Part;
 use base::shard::BaseShard;
 use model::entry::Entry;
 use row::record::{Record, Sign};
 use row::refused::Refused;
-use std::alloc::Global;
+use row::row::Row;
+use row::value::Value;
+use std::alloc::{AllocError, Global};
 use std::test::Fail;
 
 /// An entry, and what it changes or why it is refused.
@@ -39,6 +42,15 @@ const STEPS: &[Step] = &[
     (Change::Delete(3), Err(Refused::Absent)),
 ];
 
+/// An author, a number of shards of ids, one of them, and the note that is found after the steps.
+const LOOKUPS: &[(u8, usize, usize, Option<u8>)] = &[
+    (7, 1, 0, None),
+    (8, 1, 0, Some(1)),
+    (8, 2, 0, None),
+    (8, 2, 1, Some(1)),
+    (9, 2, 0, Some(2)),
+];
+
 #[test]
 fn entries_of_a_log(rt: HostRuntime) -> Result<(), Fail> {
     let mut notes = Notes {
@@ -47,6 +59,15 @@ fn entries_of_a_log(rt: HostRuntime) -> Result<(), Fail> {
     assert!(rt; notes.shard.is_empty());
     notes.take_all(rt.alloc())?;
     assert!(rt; notes.shard.len() == 6);
+    for (place, (author, shards, shard, id)) in LOOKUPS.iter().enumerate() {
+        let part = Part {
+            column: 0,
+            shards: *shards,
+            shard: *shard,
+        };
+        let found = find(&notes.shard, rt.alloc(), *author, part)?;
+        assert!(rt; is_only(&found, *id, *author), "look-up {place}");
+    }
     Ok(())
 }
 
@@ -75,6 +96,22 @@ impl Notes {
             Err(Refused::NoMemory) => Err(fail(Refused::NoMemory)),
             Err(refused) => Ok(wanted.err() == Some(refused)),
         }
+    }
+}
+
+// The notes of the author that belong to the part.
+fn find(shard: &BaseShard, alloc: Global, author: u8, part: Part) -> Result<Vec<Row>, AllocError>
+    requires { part.shards ≢ 0 }
+{
+    shard.lookup(alloc, 1, &Value::Int(i128::from(author)), part)
+}
+
+// Whether the rows are the one note, or none where there is none.
+fn is_only(rows: &[Row], id: Option<u8>, author: u8) -> bool {
+    match (rows, id) {
+        ([], None) => true,
+        ([row], Some(id)) => is_note(row, id, author),
+        _ => false,
     }
 }
 

@@ -1,20 +1,22 @@
 //! A shown copy of the notes by author.
-ghost use Rattle.std.specs.Prelude.{◌≡◌, ◌∷◌, List, [], IfOk, codes, pos};
-ghost use Rattle.row.specs.Cells.{Cells, Datum, datum_of, int, text};
-ghost use Rattle.plan.specs.Recipes.{notes_plan};
 ghost use Rattle.book.specs.Fronts.{entries};
+ghost use Rattle.book.specs.Rights.{empty_front};
 ghost use Rattle.model.specs.Histories.{view_shard};
 ghost use Rattle.model.specs.Logs.{inserts};
+ghost use Rattle.plan.specs.Recipes.{notes_plan};
+ghost use Rattle.row.specs.Cells.{Cells, Datum, datum_of, int, text};
+ghost use Rattle.std.specs.Prelude.{◌≡◌, ◌∷◌, List, [], IfOk, codes, pos};
 ghost use Rattle.view.specs.Boards.{pending, shown};
 ghost use Rattle.view.specs.Snapshots.{zero_lengths};
 
 use crate::calls::{fail, wrong};
 use crate::notes::{are_notes, note};
 use crate::runs::{Scene, run};
-use book::book::{Book, Opened};
+use book::book::{Book, Opened, Rights};
 use book::cut::Cut;
 use book::front::Front;
 use book::law::Naming;
+use book::log::Log;
 use model::entry::Entry;
 use plan::plan::Plan;
 use row::record::{Record, Sign};
@@ -53,9 +55,17 @@ pub fn looks<J: Naming, R: Wait + Drop>(
     requires plan { (opened.plan ≡ J.plan) × (plan.now ≡ J.plan) × (J.plan ≡ notes_plan) }
     requires sessions { opened.sessions ≡ J.sessions }
 {
-    let (book, front) = opened.named::<J>(0);
-    let mut writer = writer::open::<J, R>(rt, alloc, plan, 0, 0, &front.part(), 2)?;
-    let delta = first_delta(alloc, plan, &book, front)?;
+    let Rights {
+        book,
+        start,
+        mut logs,
+        ..
+    } = opened.named::<J>(alloc, plan)?;
+    if logs.len() != 1 {
+        return Err(wrong(0));
+    }
+    let mut writer = writer::open::<J, R>(rt, alloc, plan, 0, 0, &start, 2)?;
+    let delta = first_delta(alloc, plan, &book, logs.remove(0))?;
     show(&mut writer, alloc, delta)
 }
 
@@ -64,16 +74,16 @@ fn first_delta<J: Naming>(
     alloc: Global,
     plan: &Plan,
     book: &Book<J>,
-    mut front: Front<J>,
+    mut log: Log<J>,
 ) -> Result<Delta<J>, Fail>
     requires plan { (plan.now ≡ J.plan) × (J.plan ≡ notes_plan) }
-    requires front { front ≡ record { base = 0; len = 0; seen = [] } }
+    requires log { log ≡ empty_front 0 }
     ensures of { IfOk result (λ d. (d.view ≡ 0) × (d.shard ≡ 0)) }
     ensures before { IfOk result (λ d. d.before.lengths ≡ zero_lengths J.plan) }
 {
     let entry = Entry::Insert(note(alloc, 1, 7)?);
-    match front.append(book, 0, 0, &entry) {
-        Ok(()) => Ok(delta_to(alloc, plan, &front)?),
+    match log.append(book, 0, 0, &entry) {
+        Ok(()) => Ok(delta_to(alloc, plan, &log.front())?),
         Err(_) => Err(wrong(0)),
     }
 }

@@ -1,5 +1,5 @@
 //! Calls of one session after the other, each with its answer.
-use crate::calls::{fail, fence, insert, read, try_read, wrong};
+use crate::calls::{fail, fence, look, write, wrong};
 use crate::notes::note;
 use book::law::Naming;
 use model::entry::Entry;
@@ -16,6 +16,8 @@ use std::test::Fail;
 use system::read::{Answer, Found};
 use system::session::{Accepted, Session};
 
+const NOTES: &str = "notes";
+
 const VIEW: &str = "by_author";
 
 /// A call of a session. The note of an even number is author 7's, that of an odd one author 8's.
@@ -24,6 +26,10 @@ pub enum Call {
     Fence,
     Insert(&'static str, u64),
     InsertShortRow,
+    /// Puts the note of this number in place, of this author.
+    Update(i128, i128),
+    Delete(i128),
+    DeleteText,
     Read(i128),
     ReadText,
     TryRead(&'static str, i128),
@@ -73,69 +79,51 @@ pub fn answer<J: Naming, R: Wait>(
     session: &mut Session<J>,
     call: Call,
 ) -> Result<Told, Refused> {
+    if let Some((table, entry)) = written_by(alloc, call)? {
+        return Ok(told_of(write(rt, alloc, session, table, entry)?));
+    }
     match call {
-        Call::Fence => tell_fence(rt, alloc, session),
-        Call::Insert(table, id) => tell_insert(rt, alloc, session, table, id),
-        Call::InsertShortRow => tell_short_row(rt, alloc, session),
-        Call::Read(author) => tell_read(alloc, session, author),
-        Call::ReadText => tell_text(alloc, session),
-        Call::TryRead(view, author) => tell_try(alloc, session, view, author),
+        Call::Read(author) => tell_rows(alloc, session, VIEW, author, true),
+        Call::TryRead(view, author) => tell_rows(alloc, session, view, author, false),
+        Call::ReadText => {
+            look(alloc, session, VIEW, &text(alloc)?, true)?;
+            Ok(Told::Wrong)
+        }
+        _ => {
+            fence(rt, alloc, session)?;
+            Ok(Told::Fenced)
+        }
     }
 }
 
-fn tell_fence<J: Naming, R: Wait>(
-    rt: &R,
-    alloc: Global,
-    session: &mut Session<J>,
-) -> Result<Told, Refused> {
-    fence(rt, alloc, session)?;
-    Ok(Told::Fenced)
+// The table and the entry of a call that writes.
+fn written_by(alloc: Global, call: Call) -> Result<Option<(&'static str, Entry)>, AllocError> {
+    Ok(match call {
+        Call::Insert(table, id) => Some((table, Entry::Insert(numbered(alloc, id)?))),
+        Call::InsertShortRow => Some((NOTES, Entry::Insert(Row::new(Vec::new(alloc))))),
+        Call::Update(id, author) => Some((NOTES, Entry::Update(note(alloc, id, author)?))),
+        Call::Delete(id) => Some((NOTES, Entry::Delete(Value::Int(id)))),
+        Call::DeleteText => Some((NOTES, Entry::Delete(text(alloc)?))),
+        _ => None,
+    })
 }
 
-fn tell_insert<J: Naming, R: Wait>(
-    rt: &R,
-    alloc: Global,
-    session: &mut Session<J>,
-    table: &str,
-    id: u64,
-) -> Result<Told, Refused> {
-    let row = numbered(alloc, id)?;
-    Ok(told_of(insert(rt, alloc, session, table, row)?))
-}
-
-fn tell_short_row<J: Naming, R: Wait>(
-    rt: &R,
-    alloc: Global,
-    session: &mut Session<J>,
-) -> Result<Told, Refused> {
-    Ok(told_of(insert(rt, alloc, session, "notes", Row::new(Vec::new(alloc)))?))
-}
-
-fn tell_read<J: Naming>(
-    alloc: Global,
-    session: &mut Session<J>,
-    author: i128,
-) -> Result<Told, Refused> {
-    let answer = read(alloc, session, VIEW, &Value::Int(author))?;
-    Ok(compared(alloc, session.plan(), author, &answer)?)
-}
-
-fn tell_text<J: Naming>(alloc: Global, session: &mut Session<J>) -> Result<Told, Refused> {
-    let text = Value::Text(String::from_str(alloc, "x")?);
-    read(alloc, session, VIEW, &text)?;
-    Ok(Told::Wrong)
-}
-
-fn tell_try<J: Naming>(
+fn tell_rows<J: Naming>(
     alloc: Global,
     session: &mut Session<J>,
     view: &str,
     author: i128,
+    waits: bool,
 ) -> Result<Told, Refused> {
-    match try_read(alloc, session, view, &Value::Int(author))? {
+    match look(alloc, session, view, &Value::Int(author), waits)? {
         Found::Hit(answer) => Ok(compared(alloc, session.plan(), author, &answer)?),
         Found::Miss => Ok(Told::Miss),
     }
+}
+
+// No cell of a column of numbers.
+fn text(alloc: Global) -> Result<Value, AllocError> {
+    Ok(Value::Text(String::from_str(alloc, "x")?))
 }
 
 fn told_of(accepted: Accepted) -> Told {
