@@ -19,7 +19,7 @@ pub no_side : {S : Type 0} (v : S → SideLayout) (o : Option S) (p q : Layout) 
 no_side v o p q t b none is plan own = rw plan (ap (side_in q) (sym own) ∙ sym is ∙ ap (option_map v) none)
 
 -- no packet for any stage shard
-pub none_sent : (p : Layout) (edges : List EdgeView) (o : Option SideLayout) (f : SideLayout → ℕ → BasePacketView) → o ≡ None → length edges ≡ p.stages → packets_on edges ≡ none_of edges → packets_on edges ≡ to_stages p o f
+pub none_sent : (p : Layout) (edges : List (EdgeView BasePacketView)) (o : Option SideLayout) (f : SideLayout → ℕ → BasePacketView) → o ≡ None → length edges ≡ p.stages → packets_on edges ≡ none_of edges → packets_on edges ≡ to_stages p o f
 none_sent p edges o f none n clear = rw none (none_to edges p.stages (packets_on edges) n clear)
 
 -- nothing is answered, and nothing changes

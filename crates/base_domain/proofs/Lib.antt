@@ -1,5 +1,4 @@
 mod Sent
-mod Edges
 mod Parts
 mod Dones
 mod Entries

@@ -9,7 +9,7 @@ use Rattle.packet.specs.Messages.{BasePacketView, none_of}
 use Rattle.packet.specs.Codes.{packet_of}
 use Rattle.packet.specs.Truth.{IsTrueBase}
 use Rattle.base_domain.specs.Told.{part_packet, told}
-use Rattle.base_domain.proofs.Edges.{each_one}
+use Rattle.packet.proofs.Sends.{each_one}
 
 at_end : {X : Type 0} (done : List X) (x : X) (rest : List X) (d : X) → get_or (done ++ x ∷ rest) (length done) d ≡ x
 at_end [] x rest d = refl

@@ -15,7 +15,6 @@ ghost use Rattle.base.specs.Shards.{HasKey};
 use crate::message::{ToBase, Write};
 use crate::packets::{marker_packet, piece_packet, side_at};
 use crate::ready::ready_for;
-use crate::sends::{send_to_each, send_to_one};
 use crate::tells::{answer, answer_accepted, decline, tell, turn_away};
 use base::shard::BaseShard;
 use model::fronts::{Found, Fronts};
@@ -120,7 +119,7 @@ impl<'p, F: Fronts> BaseDomain<'p, F> {
         ensures edges { length out.new.edges ≡ length out.old.edges }
     {
         let sent = match self.piece(alloc, stage, ask) {
-            Ok(packet) => send_to_one(out, stage, packet),
+            Ok(packet) => out.send_to_one(stage, packet),
             Err(_) => Err(Refused::NoMemory),
         };
         self.stopped = sent.is_err();
@@ -179,7 +178,7 @@ impl<'p, F: Fronts> BaseDomain<'p, F> {
             return Err(Refused::NoMemory);
         };
         out.reserve()?;
-        send_to_each(out, packets);
+        out.send_to_each(packets);
         Ok(())
     }
 

@@ -5,5 +5,4 @@ pub mod base_domain;
 pub mod message;
 pub mod packets;
 mod ready;
-mod sends;
 mod tells;

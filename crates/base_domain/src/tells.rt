@@ -11,7 +11,6 @@ ghost use Rattle.base_domain.specs.Received.{IsAnswered};
 ghost use Rattle.base_domain.specs.Told.{part_packet, told};
 
 use crate::message::{ToBase, Write};
-use crate::sends::send_to_each;
 use model::fronts::Fronts;
 use packet::answer::Answer;
 use packet::base_packet::BasePacket;
@@ -124,7 +123,7 @@ pub(crate) fn tell<F: Fronts>(
     let front = F::of(right, alloc)?;
     if let Some(parts) = parts {
         let packets = entry_packets(right, alloc, from, parts)?;
-        send_to_each(out, packets);
+        out.send_to_each(packets);
     }
     Ok(front)
 }

@@ -2,4 +2,5 @@ mod TruthSamples
 pub mod Ascending
 pub mod KeptKeys
 mod Splits
-mod Edges
+mod Rooms
+pub mod Sends

@@ -35,7 +35,7 @@ set_range f g x a (suc n) (suc j) b at lt here others =
     ∙ ap (λ l. g a ∷ l) (set_range f g x (a + 1) n j b (omega (arith, at)) (omega (arith, lt)) here others)
 
 -- a map over a list with one element changed
-map_set : {V X : Type 0} (f : V → X) (xs : List V) (i : ℕ) (v : V) → map f (slice_set xs i v) ≡ slice_set (map f xs) i (f v)
+pub map_set : {V X : Type 0} (f : V → X) (xs : List V) (i : ℕ) (v : V) → map f (slice_set xs i v) ≡ slice_set (map f xs) i (f v)
 map_set f [] i v = refl
 map_set f (x ∷ xs) zero v = refl
 map_set f (x ∷ xs) (suc i) v = ap (λ l. f x ∷ l) (map_set f xs i v)

@@ -5,6 +5,7 @@ pub mod Marks
 pub mod Named
 pub mod Truth
 pub mod Split
+pub mod Lines
 pub mod Codes
 pub mod Answers
 pub mod Outboxes

@@ -4,37 +4,37 @@ use Rattle.row.specs.Bags.{Each}
 use Rattle.packet.specs.Messages.{BasePacketView, none_of}
 use Rattle.packet.specs.Answers.{AnswerView}
 
--- the packets of one edge, in order, and how many more it takes with no memory
-pub record EdgeView : Type 0 where
-  pub packets : List BasePacketView
+-- what goes on one edge, in order, and how much more it takes with no memory
+pub record EdgeView (P : Type 0) : Type 0 where
+  pub packets : List P
   pub room : ℕ
 
--- the edge to each stage shard, and the reply to a write
-pub record OutboxView (F : Type 0) : Type 0 where
-  pub edges : List EdgeView
-  pub reply : Option (AnswerView F)
-
 -- an edge with nothing on it
-abbrev pub no_edge : EdgeView
+abbrev pub no_edge : {P : Type 0} → EdgeView P
 no_edge = record { packets = []; room = 0 }
 
 -- the packets of each edge
-abbrev pub packets_on : List EdgeView → List (List BasePacketView)
-packets_on edges = map (λ (e : EdgeView). e.packets) edges
+abbrev pub packets_on : {P : Type 0} → List (EdgeView P) → List (List P)
+packets_on edges = map (λ (e : EdgeView _). e.packets) edges
+
+-- each edge takes one more packet with no memory
+abbrev pub HaveRoom : {P : Type 0} → List (EdgeView P) → Type 0
+HaveRoom edges = Each (λ (e : EdgeView _). 0 < e.room) edges
+
+-- one packet more, behind the others
+abbrev pub with_packet : {P : Type 0} → P → EdgeView P → EdgeView P
+with_packet x e = record { packets = e.packets ++ x ∷ []; room = e.room - 1 }
+
+-- on edge i
+abbrev pub with_packet_on : {P : Type 0} → ℕ → P → List (EdgeView P) → List (EdgeView P)
+with_packet_on i x edges = slice_set edges i (with_packet x (slice_index_or edges i no_edge))
+
+-- of a base domain: the edge to each stage shard, and the reply to a write
+pub record OutboxView (F : Type 0) : Type 0 where
+  pub edges : List (EdgeView BasePacketView)
+  pub reply : Option (AnswerView F)
 
 -- nothing is put out
 pub record IsClear {F : Type 0} (out : OutboxView F) : Type 0 where
   pub packets : packets_on out.edges ≡ none_of out.edges
   pub reply : out.reply ≡ None
-
--- each edge takes one more packet with no memory
-abbrev pub HaveRoom : List EdgeView → Type 0
-HaveRoom edges = Each (λ (e : EdgeView). 0 < e.room) edges
-
--- one packet more, behind the others
-abbrev pub with_packet : BasePacketView → EdgeView → EdgeView
-with_packet x e = record { packets = e.packets ++ x ∷ []; room = e.room - 1 }
-
--- on edge i
-abbrev pub with_packet_on : ℕ → BasePacketView → List EdgeView → List EdgeView
-with_packet_on i x edges = slice_set edges i (with_packet x (slice_index_or edges i no_edge))

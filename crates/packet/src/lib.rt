@@ -4,7 +4,13 @@
 
 pub mod answer;
 pub mod base_packet;
+pub mod edges;
+pub mod keyed;
+pub mod line;
+pub mod mode;
 pub mod outbox;
 pub mod piece;
+pub mod reader;
 pub mod request;
 pub mod split;
+pub mod stage_packet;

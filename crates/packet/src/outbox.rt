@@ -1,63 +1,21 @@
 //! What a base domain puts out.
-ghost use Rattle.std.specs.Prelude.{◌≡◌, ◌<◌, [], Some, length, slice_index_or, IfOk, OnOk, IsOkUnless};
-ghost use Rattle.packet.specs.Outboxes.{IsClear, HaveRoom, no_edge, packets_on, with_packet, with_packet_on};
+ghost use Rattle.std.specs.Prelude.{◌≡◌, ◌<◌, [], ◌∷◌, None, Some, map, length, slice_index_or, slice_set, IfOk, OnOk, OnErr, IsOkUnless};
+ghost use Rattle.packet.specs.Messages.{none_of, to_one};
+ghost use Rattle.packet.specs.Outboxes.{IsClear, HaveRoom, no_edge, packets_on};
 
 use crate::answer::Answer;
 use crate::base_packet::BasePacket;
+use crate::edges::Edges;
 use model::fronts::Fronts;
 use row::refused::Refused;
 use std::alloc::{AllocError, Global};
 use std::marker::Model;
 
-/// The packets to one stage shard, in the order in which they go.
-#[derive(Drop)]
-struct Edge<F: Fronts> {
-    packets: Vec<BasePacket<F>>,
-}
-
-impl<F: Fronts> Model for Edge<F> {
-    ghost use Rattle.std.specs.Prelude.{◌-◌};
-    ghost use Rattle.std.specs.Vec.{vec_len, vec_capacity};
-    ghost use Rattle.packet.specs.Outboxes.{EdgeView};
-
-    ghost Value = { EdgeView };
-
-    ghost view = { λ e. record { packets = e.packets.items; room = vec_capacity e.packets - vec_len e.packets } };
-}
-
-impl<F: Fronts> Edge<F> {
-    /// No packet, and room for none.
-    fn new(alloc: Global) -> Edge<F>
-        ensures { result.packets ≡ [] }
-    {
-        Edge {
-            packets: Vec::new(alloc),
-        }
-    }
-
-    /// Room for one packet more.
-    fn reserve(&mut self) -> Result<(), Refused>
-        ensures only { IsOkUnless result Refused.NoMemory }
-        ensures room { OnOk result (0 < self.new.room) }
-        ensures rest { self.new ≡ record self.old { room = self.new.room } }
-    {
-        self.packets.reserve(1).map_err(|_| Refused::NoMemory)
-    }
-
-    /// Puts the packet behind the others, in room that is there.
-    fn push(&mut self, packet: BasePacket<F>)
-        requires { 0 < self.old.room }
-        ensures { self.new ≡ with_packet packet self.old }
-    {
-        self.packets.push_reserved(packet);
-    }
-}
-
 /// All that one message makes a base domain put out: for each stage shard its packets in order, and
 /// one place for the reply to a write, which takes no memory.
 #[derive(Drop)]
 pub struct Outbox<F: Fronts> {
-    edges: Vec<Edge<F>>,
+    edges: Edges<BasePacket<F>>,
     reply: Option<Answer<F>>,
 }
 
@@ -66,7 +24,7 @@ impl<F: Fronts> Model for Outbox<F> {
 
     ghost Value = { OutboxView F };
 
-    ghost view = { λ o. record { edges = o.edges.items; reply = o.reply } };
+    ghost view = { λ o. record { edges = o.edges; reply = o.reply } };
 }
 
 impl<F: Fronts> Outbox<F> {
@@ -76,10 +34,7 @@ impl<F: Fronts> Outbox<F> {
         ensures clear { IfOk result (λ o. IsClear o) }
         ensures edges { IfOk result (λ o. length o.edges ≡ stages) }
     {
-        let mut edges = Vec::new(alloc);
-        for _ in 0..stages {
-            edges.push(Edge::new(alloc))?;
-        }
+        let edges = Edges::new(alloc, stages)?;
         Ok(Outbox { edges, reply: None })
     }
 
@@ -87,7 +42,7 @@ impl<F: Fronts> Outbox<F> {
     pub fn stages(&self) -> usize
         ensures { result ≡ length self.now.edges }
     {
-        self.edges.len()
+        self.edges.count()
     }
 
     /// The packets to a stage shard, in order.
@@ -95,7 +50,7 @@ impl<F: Fronts> Outbox<F> {
         requires { stage < length self.now.edges }
         ensures { result.now ≡ (slice_index_or self.now.edges stage no_edge).packets }
     {
-        &self.edges[stage].packets
+        self.edges.packets(stage)
     }
 
     /// Room for one packet more on each edge, so that `push` takes no memory. `NoMemory` leaves the
@@ -106,20 +61,44 @@ impl<F: Fronts> Outbox<F> {
         ensures packets { packets_on self.new.edges ≡ packets_on self.old.edges }
         ensures reply { self.new.reply ≡ self.old.reply }
     {
-        for at in 0..self.edges.len() {
-            self.edges[at].reserve()?;
-        }
-        Ok(())
+        self.edges.reserve()
     }
 
-    /// Puts a packet behind the others on the edge to a stage shard, in room that is there. It
-    /// takes no memory and cannot fail.
-    pub fn push(&mut self, stage: usize, packet: BasePacket<F>)
+    /// Puts a packet on the edge to one stage shard, and nothing on the others. `NoMemory` leaves all
+    /// edges clear.
+    pub fn send_to_one(&mut self, stage: usize, packet: BasePacket<F>) -> Result<(), Refused>
+        requires clear { packets_on self.old.edges ≡ none_of self.old.edges }
         requires stage { stage < length self.old.edges }
-        requires room { 0 < (slice_index_or self.old.edges stage no_edge).room }
-        ensures { self.new ≡ record self.old { edges = with_packet_on stage packet self.old.edges } }
+        ensures only { IsOkUnless result Refused.NoMemory }
+        ensures sent { OnOk result (packets_on self.new.edges
+            ≡ to_one (length self.old.edges) stage (packet ∷ [])) }
+        ensures unsent { OnErr result (packets_on self.new.edges ≡ none_of self.new.edges) }
+        ensures edges { length self.new.edges ≡ length self.old.edges }
+        ensures reply { self.new.reply ≡ self.old.reply }
     {
-        self.edges[stage].push(packet);
+        self.edges.send_to_one(stage, packet)
+    }
+
+    /// Puts each packet on the edge to its stage shard, in room that is there. It takes no memory.
+    pub fn send_to_each(&mut self, packets: Vec<BasePacket<F>>)
+        requires clear { packets_on self.old.edges ≡ none_of self.old.edges }
+        requires room { HaveRoom self.old.edges }
+        requires count { length packets.items ≡ length self.old.edges }
+        ensures sent { packets_on self.new.edges ≡ map (λ k. k ∷ []) packets.items }
+        ensures edges { length self.new.edges ≡ length self.old.edges }
+        ensures reply { self.new.reply ≡ self.old.reply }
+    {
+        self.edges.send_to_each(packets);
+    }
+
+    /// All packets to a stage shard, in order, moved out of the outbox. It takes no memory.
+    pub fn take(&mut self, alloc: Global, stage: usize) -> Vec<BasePacket<F>>
+        requires { stage < length self.old.edges }
+        ensures packets { result.items ≡ (slice_index_or self.old.edges stage no_edge).packets }
+        ensures rest { packets_on self.new.edges ≡ slice_set (packets_on self.old.edges) stage [] }
+        ensures reply { self.new.reply ≡ self.old.reply }
+    {
+        self.edges.take(alloc, stage)
     }
 
     /// The reply, in its place; one that was there is dropped. It takes no memory.
@@ -127,5 +106,13 @@ impl<F: Fronts> Outbox<F> {
         ensures { self.new ≡ record self.old { reply = Some answer } }
     {
         self.reply = Some(answer);
+    }
+
+    /// The reply, if there is one, moved out of its place. It takes no memory.
+    pub fn take_reply(&mut self) -> Option<Answer<F>>
+        ensures reply { result ≡ self.old.reply }
+        ensures rest { self.new ≡ record self.old { reply = None } }
+    {
+        self.reply.take()
     }
 }

@@ -1,7 +1,7 @@
 use Rattle.std.proofs.Common.{◌≡◌, ◌∷◌, ◌++◌, [], map, append_assoc, sym, ◌∙◌, ap, rules, arith}
 use Rattle.std.proofs.lemmas.List.{length-map}
 use Rattle.base_domain.specs.Told.{part_packet}
-use Rattle.base_domain.proofs.Edges.{made_more}
+use Rattle.packet.proofs.Sends.{made_more}
 use Rattle.base_domain.proofs.Parts.{part_at, part_lt, part_is, part_true, count_more}
 use Rattle.base_domain.proofs.tells.entry_packets.Goals as goal
 

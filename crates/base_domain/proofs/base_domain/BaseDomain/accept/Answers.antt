@@ -4,7 +4,7 @@ use Rattle.model.specs.Entries.{change_of}
 use Rattle.model.specs.Logs.{Change}
 use Rattle.base.specs.Shards.{Shard, IsAt}
 use Rattle.packet.specs.Outboxes.{OutboxView}
-use Rattle.base_domain.proofs.Edges.{same_count, still_clear}
+use Rattle.packet.proofs.Sends.{same_count, still_clear}
 use Rattle.base_domain.proofs.Accepts.{lawful_at, allows, same_refusal, truth_next, parts_true, parts_count, told_is, accepted_as, done_told, edges_told, at_room}
 use Rattle.base_domain.proofs.base_domain.BaseDomain.accept.Goals as goal
 

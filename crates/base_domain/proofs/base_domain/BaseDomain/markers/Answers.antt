@@ -4,7 +4,7 @@ use Rattle.plan.specs.Layouts.{Layout}
 use Rattle.packet.specs.Codes.{mark_of}
 use Rattle.protocol.specs.BaseSteps.{still}
 use Rattle.base_domain.specs.Received.{base_at}
-use Rattle.base_domain.proofs.Edges.{made_more}
+use Rattle.packet.proofs.Sends.{made_more}
 use Rattle.base_domain.proofs.Sent.{same_still}
 use Rattle.base_domain.proofs.base_domain.BaseDomain.markers.Goals as goal
 

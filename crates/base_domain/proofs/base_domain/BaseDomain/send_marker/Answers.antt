@@ -3,7 +3,7 @@ use Rattle.std.proofs.lemmas.List.FromFn.{length-map-range_with_len}
 use Rattle.packet.specs.Codes.{mark_of}
 use Rattle.protocol.specs.BaseSteps.{still}
 use Rattle.base_domain.specs.Received.{base_at}
-use Rattle.base_domain.proofs.Edges.{same_count, still_clear, each_one}
+use Rattle.packet.proofs.Sends.{same_count, still_clear, each_one}
 use Rattle.base_domain.proofs.base_domain.BaseDomain.send_marker.Goals as goal
 
 pub returns-in_err-reserve-clause-unsent : goal.returns-in_err-reserve-clause-unsent

@@ -1,7 +1,7 @@
 use Rattle.std.proofs.Common.{◌≡◌, length}
 use Rattle.packet.specs.Messages.{none_of}
 use Rattle.packet.specs.Outboxes.{packets_on}
-use Rattle.packet.proofs.outbox.Outbox.new.Given as goal
+use Rattle.packet.proofs.edges.Edges.new.Given as goal
 
 abbrev pub invariant-loop : goal.invariant-loop
 invariant-loop g l = record {

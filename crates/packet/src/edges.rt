@@ -1,0 +1,166 @@
+//! What is put out on edges.
+ghost use Rattle.std.specs.Prelude.{◌≡◌, ◌<◌, [], ◌∷◌, map, length, slice_index_or, slice_set, IfOk, OnOk, OnErr, IsOkUnless};
+ghost use Rattle.packet.specs.Messages.{none_of, to_one};
+ghost use Rattle.packet.specs.Outboxes.{HaveRoom, no_edge, packets_on, with_packet, with_packet_on};
+
+use row::refused::Refused;
+use std::alloc::{AllocError, Global};
+use std::marker::Model;
+use std::mem;
+
+/// What goes on one edge, in the order in which it goes.
+#[derive(Drop)]
+struct Edge<P: Drop> {
+    packets: Vec<P>,
+}
+
+impl<P: Drop> Model for Edge<P> {
+    ghost use Rattle.std.specs.Prelude.{◌-◌};
+    ghost use Rattle.std.specs.Vec.{vec_len, vec_capacity};
+    ghost use Rattle.packet.specs.Outboxes.{EdgeView};
+
+    ghost Value = { EdgeView P };
+
+    ghost view = { λ e. record { packets = e.packets.items; room = vec_capacity e.packets - vec_len e.packets } };
+}
+
+impl<P: Drop> Edge<P> {
+    /// Nothing, and room for nothing.
+    fn new(alloc: Global) -> Edge<P>
+        ensures { result.packets ≡ [] }
+    {
+        Edge {
+            packets: Vec::new(alloc),
+        }
+    }
+
+    /// Room for one more.
+    fn reserve(&mut self) -> Result<(), Refused>
+        ensures only { IsOkUnless result Refused.NoMemory }
+        ensures room { OnOk result (0 < self.new.room) }
+        ensures rest { self.new ≡ record self.old { room = self.new.room } }
+    {
+        self.packets.reserve(1).map_err(|_| Refused::NoMemory)
+    }
+
+    /// Puts it behind the others, in room that is there.
+    fn push(&mut self, packet: P)
+        requires { 0 < self.old.room }
+        ensures { self.new ≡ with_packet packet self.old }
+    {
+        self.packets.push_reserved(packet);
+    }
+
+    /// All that is on it, moved out of it.
+    fn take(&mut self, alloc: Global) -> Vec<P>
+        ensures packets { result.items ≡ self.old.packets }
+        ensures rest { self.new.packets ≡ [] }
+    {
+        mem::replace(&mut self.packets, Vec::new(alloc))
+    }
+}
+
+/// What one message makes a domain put out on each of its edges of a kind, in order.
+#[derive(Drop)]
+pub struct Edges<P: Drop> {
+    edges: Vec<Edge<P>>,
+}
+
+impl<P: Drop> Model for Edges<P> {
+    ghost use Rattle.std.specs.Prelude.{List};
+    ghost use Rattle.packet.specs.Outboxes.{EdgeView};
+
+    ghost Value = { List (EdgeView P) };
+
+    ghost view = { λ o. o.edges.items };
+}
+
+impl<P: Drop> Edges<P> {
+    /// So many edges with nothing on them. Errors: memory only.
+    pub fn new(alloc: Global, count: usize) -> Result<Edges<P>, AllocError>
+        ensures clear { IfOk result (λ o. packets_on o ≡ none_of o) }
+        ensures count { IfOk result (λ o. length o ≡ count) }
+    {
+        let mut edges = Vec::new(alloc);
+        for _ in 0..count {
+            edges.push(Edge::new(alloc))?;
+        }
+        Ok(Edges { edges })
+    }
+
+    /// How many edges there are.
+    pub fn count(&self) -> usize
+        ensures { result ≡ length self.now }
+    {
+        self.edges.len()
+    }
+
+    /// What is on an edge, in order.
+    pub fn packets(&self, edge: usize) -> &[P]
+        requires { edge < length self.now }
+        ensures { result.now ≡ (slice_index_or self.now edge no_edge).packets }
+    {
+        &self.edges[edge].packets
+    }
+
+    /// Room for one more on each edge, so that `push` takes no memory. `NoMemory` leaves what is on
+    /// the edges as it was, and so does success.
+    pub fn reserve(&mut self) -> Result<(), Refused>
+        ensures only { IsOkUnless result Refused.NoMemory }
+        ensures room { OnOk result (HaveRoom self.new) }
+        ensures packets { packets_on self.new ≡ packets_on self.old }
+    {
+        for at in 0..self.edges.len() {
+            self.edges[at].reserve()?;
+        }
+        Ok(())
+    }
+
+    /// Puts it behind the others on an edge, in room that is there.
+    fn push(&mut self, edge: usize, packet: P)
+        requires edge { edge < length self.old }
+        requires room { 0 < (slice_index_or self.old edge no_edge).room }
+        ensures { self.new ≡ with_packet_on edge packet self.old }
+    {
+        self.edges[edge].push(packet);
+    }
+
+    /// Puts a packet on one edge, and nothing on the others. `NoMemory` leaves all edges clear.
+    pub fn send_to_one(&mut self, edge: usize, packet: P) -> Result<(), Refused>
+        requires clear { packets_on self.old ≡ none_of self.old }
+        requires edge { edge < length self.old }
+        ensures only { IsOkUnless result Refused.NoMemory }
+        ensures sent { OnOk result (packets_on self.new
+            ≡ to_one (length self.old) edge (packet ∷ [])) }
+        ensures unsent { OnErr result (packets_on self.new ≡ none_of self.new) }
+        ensures edges { length self.new ≡ length self.old }
+    {
+        self.reserve()?;
+        self.push(edge, packet);
+        Ok(())
+    }
+
+    /// Puts each packet on the edge of its place, in room that is there. It takes no memory.
+    pub fn send_to_each(&mut self, packets: Vec<P>)
+        requires clear { packets_on self.old ≡ none_of self.old }
+        requires room { HaveRoom self.old }
+        requires count { length packets.items ≡ length self.old }
+        ensures sent { packets_on self.new ≡ map (λ k. k ∷ []) packets.items }
+        ensures edges { length self.new ≡ length self.old }
+    {
+        let mut edge = 0;
+        for packet in packets {
+            self.push(edge, packet);
+            edge += 1;
+        }
+    }
+
+    /// All that is on an edge, in order, moved out of it; then nothing is on it. It takes no memory.
+    pub fn take(&mut self, alloc: Global, edge: usize) -> Vec<P>
+        requires { edge < length self.old }
+        ensures packets { result.items ≡ (slice_index_or self.old edge no_edge).packets }
+        ensures rest { packets_on self.new ≡ slice_set (packets_on self.old) edge [] }
+    {
+        self.edges[edge].take(alloc)
+    }
+}

@@ -1,0 +1,76 @@
+//! A front of each source.
+ghost use Rattle.std.specs.Prelude.{◌≡◌, ◌<◌, length, map, IfOk, Some, slice_get, slice_set};
+ghost use Rattle.packet.specs.Lines.{lengths_of};
+
+use model::fronts::Fronts;
+use std::alloc::{AllocError, Global};
+use std::marker::Model;
+
+/// A front of each source of the stage, in order: how far the logs were taken.
+#[derive(Drop)]
+pub struct Line<F: Fronts> {
+    fronts: Vec<F>,
+}
+
+impl<F: Fronts> Model for Line<F> {
+    ghost use Rattle.std.specs.Prelude.{List, map};
+    ghost use Rattle.model.specs.Fronts.{LogView};
+
+    ghost Value = { List LogView };
+
+    ghost view = { λ l. map F.log l.fronts.items };
+}
+
+impl<F: Fronts> Line<F> {
+    /// The line of these fronts.
+    pub fn new(fronts: Vec<F>) -> Line<F>
+        ensures { result ≡ map F.log fronts.items }
+    {
+        Line { fronts }
+    }
+
+    /// How many sources there are. Constant time.
+    pub fn sources(&self) -> usize
+        ensures { result ≡ length self.now }
+    {
+        self.fronts.len()
+    }
+
+    /// The front of a source. Constant time.
+    pub fn front(&self, source: usize) -> &F
+        requires { source < length self.now }
+        ensures { slice_get self.now source ≡ Some (F.log result.now) }
+    {
+        &self.fronts[source]
+    }
+
+    /// Puts another front of the source in place of its own. Takes no memory. Constant time.
+    pub fn set(&mut self, source: usize, front: F)
+        requires { source < length self.old }
+        ensures { self.new ≡ slice_set self.old source (F.log front) }
+    {
+        self.fronts[source] = front;
+    }
+
+    /// A second copy. Errors: memory only. Cost: a copy of each front.
+    pub fn again(&self, alloc: Global) -> Result<Line<F>, AllocError>
+        ensures { IfOk result (λ l. l ≡ self.now) }
+    {
+        let mut fronts = Vec::new(alloc);
+        for front in &self.fronts {
+            fronts.push(front.again(alloc)?)?;
+        }
+        Ok(Line { fronts })
+    }
+
+    /// How many entries each front has. Errors: memory only.
+    pub fn lengths(&self, alloc: Global) -> Result<Vec<u64>, AllocError>
+        ensures { IfOk result (λ v. v.items ≡ lengths_of self.now) }
+    {
+        let mut lengths = Vec::new(alloc);
+        for front in &self.fronts {
+            lengths.push(front.len())?;
+        }
+        Ok(lengths)
+    }
+}

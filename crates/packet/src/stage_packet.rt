@@ -1,0 +1,105 @@
+//! What a stage shard tells a view shard.
+ghost use Rattle.std.specs.Prelude.{◌≡◌};
+ghost use Rattle.packet.specs.Codes.{stage_packet_of};
+ghost use Rattle.packet.specs.Truth.{IsTrueStage};
+
+use crate::keyed::Keyed;
+use crate::line::Line;
+use crate::piece::Piece;
+use crate::reader::Reader;
+use crate::request::Marker;
+use model::fronts::Fronts;
+use row::value::Value;
+use std::marker::Model;
+
+/// What a packet of a stage shard carries: the rows that come and go, each beside its key, and the
+/// keys of which it cannot tell; or a piece of a key, or a marker.
+#[derive(Drop)]
+pub struct Content {
+    pub changes: Vec<Keyed>,
+    pub evicts: Vec<Value>,
+    pub piece: Option<Piece>,
+    pub marker: Option<Marker>,
+}
+
+/// What a stage shard tells a shard of a view, between two lines. By its type it is true: as bags,
+/// the stage shard's part of each key at the one line with the changes of the key is its part at the
+/// other, but for the keys that it evicts; and a piece is the stage shard's part of its key.
+#[derive(Drop)]
+pub struct StagePacket<F: Fronts> {
+    stage: usize,
+    reader: Reader,
+    from: Vec<u64>,
+    to: Line<F>,
+    content: Content,
+}
+
+impl<F: Fronts> Model for StagePacket<F> {
+    ghost use Rattle.packet.specs.Messages.{StagePacketView};
+    ghost use Rattle.packet.specs.Codes.{stage_packet_of};
+    ghost use Rattle.packet.specs.Truth.{IsTrueStage};
+
+    ghost Value = { StagePacketView };
+
+    ghost view = { λ x. stage_packet_of x.stage x.reader x.from.items x.to x.content };
+
+    ghost invariant = { λ x. IsTrueStage (stage_packet_of x.stage x.reader x.from.items x.to x.content) };
+}
+
+impl<F: Fronts> StagePacket<F> {
+    /// A packet that starts at the first `from` entries of each of the line's logs.
+    pub fn new(
+        stage: usize,
+        reader: Reader,
+        from: Vec<u64>,
+        to: Line<F>,
+        content: Content,
+    ) -> StagePacket<F>
+        requires { IsTrueStage (stage_packet_of stage reader from.items to content) }
+        ensures { result ≡ stage_packet_of stage reader from.items to content }
+    {
+        StagePacket {
+            stage,
+            reader,
+            from,
+            to,
+            content,
+        }
+    }
+
+    /// What its type says of it.
+    pub fn is_true(&self)
+        ensures { IsTrueStage self.now }
+    {
+        let _stage = self.stage;
+    }
+
+    /// The stage shard that it comes from.
+    pub fn stage(&self) -> usize
+        ensures { result ≡ self.now.stage }
+    {
+        self.stage
+    }
+
+    /// The shard of a view that it goes to.
+    pub fn reader(&self) -> Reader
+        ensures { result ≡ record { view = self.now.view; shard = self.now.shard } }
+    {
+        self.reader
+    }
+
+    /// Its parts, moved out of it.
+    pub fn into_parts(self) -> (Vec<u64>, Line<F>, Content)
+        ensures parts { self ≡ stage_packet_of self.stage
+            (record { view = self.view; shard = self.shard }) result.0.items result.1 result.2 }
+        ensures truth { IsTrueStage self }
+    {
+        let StagePacket {
+            from,
+            to,
+            content,
+            ..
+        } = self;
+        (from, to, content)
+    }
+}
