@@ -4,3 +4,4 @@ pub mod KeptKeys
 mod Splits
 mod Rooms
 pub mod Sends
+mod Arrivals

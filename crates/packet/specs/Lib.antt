@@ -2,6 +2,7 @@ pub mod Readers
 pub mod Messages
 pub mod Keys
 pub mod Marks
+pub mod Leaves
 pub mod Named
 pub mod Truth
 pub mod Split

@@ -7,6 +7,7 @@ pub mod base_packet;
 pub mod edges;
 pub mod keyed;
 pub mod line;
+pub mod marks;
 pub mod mode;
 pub mod outbox;
 pub mod piece;
