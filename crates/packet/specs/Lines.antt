@@ -1,8 +1,10 @@
 -- A line as its fronts tell of it.
-use Rattle.std.specs.Prelude.{ℕ, List, [], ◌∷◌, map, length, take, None, slice_index_or}
+use Rattle.std.specs.Prelude.{◌≡◌, ℕ, List, [], ◌∷◌, map, length, take, None, slice_index_or}
 use Rattle.plan.specs.Layouts.{Layout}
 use Rattle.model.specs.Fronts.{LogView}
+use Rattle.model.specs.Places.{sources}
 use Rattle.model.specs.Queries.{Line}
+use Rattle.packet.specs.Truth.{Pointwise}
 
 -- what stands past the end of a list
 abbrev pub no_plan : Layout
@@ -28,3 +30,12 @@ abbrev pub fronts_to : List ℕ → Line → Line
 fronts_to [] line = []
 fronts_to (n ∷ ns) [] = []
 fronts_to (n ∷ ns) (front ∷ line) = take n front ∷ fronts_to ns line
+
+-- the front is of the plan, and of this base shard
+pub record IsOf (p : Layout) (b : ℕ) (l : LogView) : Type 0 where
+  pub plan : l.plan ≡ p
+  pub base : l.base ≡ b
+
+-- the line has a front of each source of the plan
+abbrev pub AreOf : Layout → List LogView → Type 0
+AreOf p line = Pointwise (IsOf p) (sources p) line

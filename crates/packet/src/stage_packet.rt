@@ -1,6 +1,7 @@
 //! What a stage shard tells a view shard.
 ghost use Rattle.std.specs.Prelude.{◌≡◌};
 ghost use Rattle.packet.specs.Codes.{stage_packet_of};
+ghost use Rattle.packet.specs.Lines.{AreOf, plan_of};
 ghost use Rattle.packet.specs.Truth.{IsTrueStage};
 
 use crate::keyed::Keyed;
@@ -24,7 +25,8 @@ pub struct Content {
 
 /// What a stage shard tells a shard of a view, between two lines. By its type it is true: as bags,
 /// the stage shard's part of each key at the one line with the changes of the key is its part at the
-/// other, but for the keys that it evicts; and a piece is the stage shard's part of its key.
+/// other, but for the keys that it evicts; and a piece is the stage shard's part of its key. The line
+/// has a front of each source of its plan.
 #[derive(Drop)]
 pub struct StagePacket<F: Fronts> {
     stage: usize,
@@ -37,13 +39,14 @@ pub struct StagePacket<F: Fronts> {
 impl<F: Fronts> Model for StagePacket<F> {
     ghost use Rattle.packet.specs.Messages.{StagePacketView};
     ghost use Rattle.packet.specs.Codes.{stage_packet_of};
+    ghost use Rattle.packet.specs.Lines.{AreOf, plan_of};
     ghost use Rattle.packet.specs.Truth.{IsTrueStage};
 
     ghost Value = { StagePacketView };
 
     ghost view = { λ x. stage_packet_of x.stage x.reader x.from.items x.to x.content };
 
-    ghost invariant = { λ x. IsTrueStage (stage_packet_of x.stage x.reader x.from.items x.to x.content) };
+    ghost invariant = { λ x. AreOf (plan_of x.to) x.to × IsTrueStage (stage_packet_of x.stage x.reader x.from.items x.to x.content) };
 }
 
 impl<F: Fronts> StagePacket<F> {
@@ -55,7 +58,8 @@ impl<F: Fronts> StagePacket<F> {
         to: Line<F>,
         content: Content,
     ) -> StagePacket<F>
-        requires { IsTrueStage (stage_packet_of stage reader from.items to content) }
+        requires of { AreOf (plan_of to) to }
+        requires truth { IsTrueStage (stage_packet_of stage reader from.items to content) }
         ensures { result ≡ stage_packet_of stage reader from.items to content }
     {
         StagePacket {
@@ -92,6 +96,7 @@ impl<F: Fronts> StagePacket<F> {
     pub fn into_parts(self) -> (Vec<u64>, Line<F>, Content)
         ensures parts { self ≡ stage_packet_of self.stage
             (record { view = self.view; shard = self.shard }) result.0.items result.1 result.2 }
+        ensures of { AreOf self.plan result.1 }
         ensures truth { IsTrueStage self }
     {
         let StagePacket {
