@@ -48,27 +48,36 @@ module _ {P : Type 0} where
   filled_all (x ∷ xs) (d ∷ ds) h e = rw (h.0, filled_all xs ds h.1 (omega (arith, e))) refl
 
   -- no edge from a on is edge b
-  past_one : (x : P) (edges : List (EdgeView P)) (a b : ℕ) → b < a → packets_on edges ≡ none_of edges → packets_on edges ≡ map (λ r. cond (r == b) (x ∷ []) []) (range_with_len a (length edges))
-  past_one x [] a b lt h = refl
-  past_one x (e ∷ es) a b lt h =
+  past_one : (xs : List P) (edges : List (EdgeView P)) (a b : ℕ) → b < a → packets_on edges ≡ none_of edges → packets_on edges ≡ map (λ r. cond (r == b) xs []) (range_with_len a (length edges))
+  past_one xs [] a b lt h = refl
+  past_one xs (e ∷ es) a b lt h =
       let first : e.packets ≡ [] = cc in
       let rest : packets_on es ≡ none_of es = cc in
-      rw (first, ne_eqb a b (λ is. omega (arith, lt, is)), past_one x es (a + 1) b (omega (arith, lt)) rest) refl
+      rw (first, ne_eqb a b (λ is. omega (arith, lt, is)), past_one xs es (a + 1) b (omega (arith, lt)) rest) refl
 
-  one_from : (x : P) (edges : List (EdgeView P)) (i a b : ℕ) → b ≡ a + i → i < length edges → packets_on edges ≡ none_of edges → packets_on (slice_set edges i (with_packet x (get_or edges i no_edge))) ≡ map (λ r. cond (r == b) (x ∷ []) []) (range_with_len a (length edges))
-  one_from x [] i a b at lt h = absurd (omega (arith, lt))
-  one_from x (e ∷ es) zero a b at lt h =
+  all_from : (d : EdgeView P) (edges : List (EdgeView P)) (i a b : ℕ) → b ≡ a + i → i < length edges → packets_on edges ≡ none_of edges → packets_on (slice_set edges i d) ≡ map (λ r. cond (r == b) d.packets []) (range_with_len a (length edges))
+  all_from d [] i a b at lt h = absurd (omega (arith, lt))
+  all_from d (e ∷ es) zero a b at lt h =
+      let rest : packets_on es ≡ none_of es = cc in
+      rw (eq-eqb a b (omega (arith, at)), past_one d.packets es (a + 1) b (omega (arith, at)) rest) refl
+  all_from d (e ∷ es) (suc i) a b at lt h =
       let first : e.packets ≡ [] = cc in
       let rest : packets_on es ≡ none_of es = cc in
-      rw (first, eq-eqb a b (omega (arith, at)), past_one x es (a + 1) b (omega (arith, at)) rest) refl
-  one_from x (e ∷ es) (suc i) a b at lt h =
-      let first : e.packets ≡ [] = cc in
-      let rest : packets_on es ≡ none_of es = cc in
-      rw (first, ne_eqb a b (λ is. omega (arith, at, is)), one_from x es i (a + 1) b (omega (arith, at)) (omega (arith, lt)) rest) refl
+      rw (first, ne_eqb a b (λ is. omega (arith, at, is)), all_from d es i (a + 1) b (omega (arith, at)) (omega (arith, lt)) rest) refl
+
+  -- an edge that is clear has no packet
+  clear_at : (edges : List (EdgeView P)) (i : ℕ) → i < length edges → packets_on edges ≡ none_of edges → (get_or edges i no_edge).packets ≡ []
+  clear_at [] i lt h = absurd (omega (arith, lt))
+  clear_at (e ∷ es) zero lt h = cc
+  clear_at (e ∷ es) (suc i) lt h = let rest : packets_on es ≡ none_of es = cc in clear_at es i (omega (arith, lt)) rest
+
+  -- one edge alone has these packets
+  pub all_sent : (d : EdgeView P) (edges : List (EdgeView P)) (i : ℕ) → i < length edges → packets_on edges ≡ none_of edges → packets_on (slice_set edges i d) ≡ map (λ r. cond (r == i) d.packets []) (range_with_len 0 (length edges))
+  all_sent d edges i lt h = all_from d edges i 0 i (omega arith) lt h
 
   -- one edge alone has a packet
   pub one_sent : (x : P) (edges : List (EdgeView P)) (i : ℕ) → i < length edges → packets_on edges ≡ none_of edges → packets_on (slice_set edges i (with_packet x (get_or edges i no_edge))) ≡ map (λ r. cond (r == i) (x ∷ []) []) (range_with_len 0 (length edges))
-  one_sent x edges i lt h = one_from x edges i 0 i (omega arith) lt h
+  one_sent x edges i lt h = all_sent (with_packet x (get_or edges i no_edge)) edges i lt h ∙ ap (λ xs. map (λ r. cond (r == i) (xs ++ x ∷ []) []) (range_with_len 0 (length edges))) (clear_at edges i lt h)
 
   -- edges with the same packets are as many, and are clear together
   pub same_count : (es ds : List (EdgeView P)) → packets_on es ≡ packets_on ds → length es ≡ length ds

@@ -51,6 +51,13 @@ impl<P: Drop> Edge<P> {
         self.packets.push_reserved(packet);
     }
 
+    /// Puts these on it in place of what is there.
+    fn fill(&mut self, packets: Vec<P>)
+        ensures { self.new.packets ≡ packets.items }
+    {
+        self.packets = packets;
+    }
+
     /// All that is on it, moved out of it.
     fn take(&mut self, alloc: Global) -> Vec<P>
         ensures packets { result.items ≡ self.old.packets }
@@ -138,6 +145,17 @@ impl<P: Drop> Edges<P> {
         self.reserve()?;
         self.push(edge, packet);
         Ok(())
+    }
+
+    /// Puts these packets on one edge, in their order, and nothing on the others. It takes no
+    /// memory.
+    pub fn send_all_to_one(&mut self, edge: usize, packets: Vec<P>)
+        requires clear { packets_on self.old ≡ none_of self.old }
+        requires edge { edge < length self.old }
+        ensures sent { packets_on self.new ≡ to_one (length self.old) edge packets.items }
+        ensures edges { length self.new ≡ length self.old }
+    {
+        self.edges[edge].fill(packets);
     }
 
     /// Puts each packet on the edge of its place, in room that is there. It takes no memory.
