@@ -7,6 +7,8 @@ mod books;
 #[cfg(test)]
 mod cells;
 #[cfg(test)]
+mod edges;
+#[cfg(test)]
 mod fronts;
 #[cfg(test)]
 mod packets;
