@@ -1,5 +1,5 @@
 -- Calls, deliveries, orders and stops: which reply comes when.
-use Rattle.std.proofs.Common.{◌≡◌, ℕ, List, [], ◌∷◌, ◌++◌, map, take, refl, Some, None, codes}
+use Rattle.std.proofs.Common.{true, ◌≡◌, ℕ, List, [], ◌∷◌, ◌++◌, map, take, refl, Some, None, codes}
 use Rattle.row.specs.Cells.{text}
 use Rattle.row.specs.declared.refused.Refused.TheVariants.{UnknownTable, BadRow, UnknownView, BadKey, Stopped, UnknownPlace}
 use Rattle.plan.specs.Recipes.{votes_small, clicks_summed}
@@ -14,7 +14,7 @@ use Rattle.protocol.proofs.WorldSamples.{story, prelude_replies, after, counts, 
 use Rattle.protocol.specs.Laws.{world_after}
 
 abbrev pub says : List Event → List Reply
-says es = replies (start votes_small) es
+says es = replies (start true votes_small) es
 
 -- ---- what is looked for first
 -- a session that there is not, then the arguments, then what has stopped
@@ -33,7 +33,7 @@ pub arguments_first :
 arguments_first = refl
 
 -- an order at the stage, also with no right side
-pub stage_orders : replies (start clicks_summed) (evict_stage (n 1) ∷ evict_stage (text (codes "home")) ∷ stop (Some (stage 0)) ∷ evict_stage (text (codes "home")) ∷ evict_stage (n 1) ∷ [])
+pub stage_orders : replies (start true clicks_summed) (evict_stage (n 1) ∷ evict_stage (text (codes "home")) ∷ stop (Some (stage 0)) ∷ evict_stage (text (codes "home")) ∷ evict_stage (n 1) ∷ [])
     ≡ refused BadKey ∷ evicted ∷ stopped ∷ refused Stopped ∷ refused BadKey ∷ []
 stage_orders = refl
 
@@ -86,13 +86,13 @@ raised_by_place = refl
 abbrev pub numbers : World → List ℕ
 numbers w = map (λ (c : Caller). c.number) (take 2 w.callers)
 
-pub all_numbered : numbers (world_after (start votes_small) (story 1 7 ∷ story 1 7 ∷ write 0 (codes "nope") (inserts []) ∷ stop (Some (stage 0)) ∷ fence 0 ∷ tries ∷ wants ∷ count 0 by_author ∷ fence 1 ∷ [])) ≡ 4 ∷ 1 ∷ []
+pub all_numbered : numbers (world_after (start true votes_small) (story 1 7 ∷ story 1 7 ∷ write 0 (codes "nope") (inserts []) ∷ stop (Some (stage 0)) ∷ fence 0 ∷ tries ∷ wants ∷ count 0 by_author ∷ fence 1 ∷ [])) ≡ 4 ∷ 1 ∷ []
 all_numbered = refl
 
 -- ---- settle
 -- the round that finds all edges empty is one of those that are allowed
 abbrev pub one_story : World
-one_story = (step (start votes_small) (story 1 7)).world
+one_story = (step (start true votes_small) (story 1 7)).world
 
 abbrev pub reply_of : Did → Reply
 reply_of d = d.reply

@@ -1,5 +1,5 @@
 -- Every schedule: the replies tell of a legal history.
-use Rattle.std.proofs.Common.{List, [], ◌∷◌, ◌++◌, slice_get, slice_index_or, Some, None, refl, ap, sym, ◌∙◌, subst}
+use Rattle.std.proofs.Common.{Bool, List, [], ◌∷◌, ◌++◌, slice_get, slice_index_or, Some, None, refl, ap, sym, ◌∙◌, subst}
 use Rattle.plan.specs.Layouts.{Layout, view_named}
 use Rattle.plan.specs.Profile.{IsPlan}
 use Rattle.model.specs.Histories.{Item}
@@ -47,13 +47,13 @@ all_told (e ∷ es) w past h g =
     (r.0, (t.is, t.told, r.1), r.2)
 
 pub every_schedule : EverySchedule
-every_schedule p g events =
-    let r : IsTold p [] [] events (replies (start p) events) = all_told events (start p) [] [] (start_good p g) in
+every_schedule by_key p g events =
+    let r : IsTold p [] [] events (replies (start by_key p) events) = all_told events (start by_key p) [] [] (start_good by_key p g) in
     (r.0, (r.1, r.2))
 
 -- for the code: an invariant of the world that each event keeps
-pub reached_start : (p : Layout) → IsPlan p → IsReached (start p)
-reached_start p g = ([], [], start_good p g)
+pub reached_start : (by_key : Bool) (p : Layout) → IsPlan p → IsReached (start by_key p)
+reached_start by_key p g = ([], [], start_good by_key p g)
 
 pub reached_step : (w : World) (e : Event) → IsReached w → IsReached (step w e).world
 reached_step w e r = let t = step_tells w r.0 r.1 e r.2 in (r.0 ++ e ∷ [], r.1 ++ t.is, t.kept.good)
@@ -82,6 +82,6 @@ reached_after [] w r = r
 reached_after (e ∷ es) w r = reached_after es (step w e).world (reached_step w e r)
 
 pub every_turn : EveryTurn
-every_turn p g events =
-    let r = reached_after events (start p) (reached_start p g) in
-    (stage_next (world_after (start p) events) r, view_next (world_after (start p) events) r)
+every_turn by_key p g events =
+    let r = reached_after events (start by_key p) (reached_start by_key p g) in
+    (stage_next (world_after (start by_key p) events) r, view_next (world_after (start by_key p) events) r)

@@ -1,5 +1,5 @@
 -- Schedules over a plan with two shards of everything: joins, moves, evictions and caps.
-use Rattle.std.proofs.Common.{◌≡◌, ℕ, List, [], ◌∷◌, ◌++◌, refl, Some, codes}
+use Rattle.std.proofs.Common.{true, ◌≡◌, ℕ, List, [], ◌∷◌, ◌++◌, refl, Some, codes}
 use Rattle.row.specs.Cells.{text, Cells}
 use Rattle.row.specs.declared.refused.Refused.TheVariants.{Duplicate, Absent, UnknownPlace}
 use Rattle.plan.specs.Layouts.{Layout}
@@ -25,7 +25,7 @@ told i t c = n i ∷ n 7 ∷ text t ∷ n c ∷ []
 
 -- a join, a move of a vote, a new story behind a filled key, an eviction of a stage key
 pub joined_and_moved :
-    replies (start votes_counted) (
+    replies (start true votes_counted) (
     fence 0 ∷ settle ∷ reads 7
     ++ (story 1 7 (codes "a") ∷ vote 10 1 ∷ vote 11 1 ∷ fence 0 ∷ settle ∷ []) ++ reads 7
     ++ (story 2 7 (codes "b") ∷ fence 0 ∷ settle ∷ []) ++ reads 7
@@ -59,7 +59,7 @@ filled_twice =
     ∷ wanted ∷ settled [] ∷ hit (told_of 2 8 (codes "b")) (both (1 ∷ 1 ∷ 1 ∷ 1 ∷ [])) ∷ []
 
 pub cap_of_one :
-    replies (start one_key) (
+    replies (start true one_key) (
     (story 1 7 (codes "a") ∷ story 2 8 (codes "b") ∷ vote 10 1 ∷ vote 11 2 ∷ fence 0 ∷ settle ∷ [])
     ++ reads 7 ++ reads 8 ++ reads 7 ++ reads 8 ++ reads 7 ++ reads 8 ++ count 0 by_author ∷ []
     ) ≡
@@ -69,7 +69,7 @@ cap_of_one = refl
 
 -- a group, with no right side
 pub grouped :
-    replies (start clicks_summed) (
+    replies (start true clicks_summed) (
     write 0 (codes "clicks") (inserts (n 1 ∷ text (codes "home") ∷ n 5 ∷ [])) ∷ write 0 (codes "clicks") (inserts (n 3 ∷ text (codes "home") ∷ n 7 ∷ [])) ∷ fence 0 ∷ settle
     ∷ want 0 (codes "by_page") (text (codes "home")) ∷ settle ∷ try_read 0 (codes "by_page") (text (codes "home"))
     ∷ write 0 (codes "clicks") (deletes (n 1)) ∷ fence 0 ∷ settle ∷ try_read 0 (codes "by_page") (text (codes "home")) ∷ evict_stage (text (codes "home")) ∷ [])
@@ -78,7 +78,7 @@ pub grouped :
 grouped = refl
 
 -- an event that names no shard of a table stops none, though the number that its places give is that of another table's shard
-pub no_such_shard : replies (start one_key) (stop (Some (domain.Base 0 2)) ∷ vote 10 1 ∷ []) ≡ refused UnknownPlace ∷ accepted 1 0 0 ∷ []
+pub no_such_shard : replies (start true one_key) (stop (Some (domain.Base 0 2)) ∷ vote 10 1 ∷ []) ≡ refused UnknownPlace ∷ accepted 1 0 0 ∷ []
 no_such_shard = refl
 
 pub same_number : base_at one_key 0 2 ≡ base_at one_key 1 0

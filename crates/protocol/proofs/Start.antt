@@ -1,5 +1,5 @@
 -- The empty world.
-use Rattle.std.proofs.Common.{◌≡◌, ℕ, zero, suc, ◌+◌, ◌<◌, true, not, List, [], ◌∷◌, map, length, replicate, slice_get, slice_index_or, Some, refl, ap, sym, ◌∙◌, subst, arith}
+use Rattle.std.proofs.Common.{Bool, ◌≡◌, ℕ, zero, suc, ◌+◌, ◌<◌, true, not, List, [], ◌∷◌, map, length, replicate, slice_get, slice_index_or, Some, refl, ap, sym, ◌∙◌, subst, arith}
 use Rattle.std.specs.List.{range_with_len}
 use Rattle.std.proofs.lemmas.List.FromFn.{length-map-range_with_len}
 use Rattle.plan.specs.Layouts.{Layout}
@@ -41,14 +41,14 @@ first_lines : (p : Layout) (xs ys : List ℕ) → Three (Led IsBaseRun IsPrefix 
 first_lines p xs [] = tt
 first_lines p xs (y ∷ ys) = (sym (entries_none p xs y), first_lines p xs ys)
 
-first_edges : (p : Layout) (a n : ℕ) (senders : List (List Change)) → Three (Led IsBaseRun IsPrefix true) (map (λ b. []) (sources p)) (replicate (length (sources p)) []) senders
-    → Edges IsBaseRun IsPrefix (λ (s : Stage). s.line) (map (first_stage p) (range_with_len a n)) (replicate n (replicate (length (sources p)) [])) senders
-first_edges p a zero senders h = tt
-first_edges p a (suc n) senders h = (h, first_edges p (a + 1) n senders h)
+first_edges : (by_key : Bool) (p : Layout) (a n : ℕ) (senders : List (List Change)) → Three (Led IsBaseRun IsPrefix true) (map (λ b. []) (sources p)) (replicate (length (sources p)) []) senders
+    → Edges IsBaseRun IsPrefix (λ (s : Stage). s.line) (map (first_stage by_key p) (range_with_len a n)) (replicate n (replicate (length (sources p)) [])) senders
+first_edges by_key p a zero senders h = tt
+first_edges by_key p a (suc n) senders h = (h, first_edges by_key p (a + 1) n senders h)
 
-first_cut : (p : Layout) (a n : ℕ) → Three (Led IsRun Grows true) (replicate n (map (λ b. []) (sources p))) (replicate n []) (lines_of (map (first_stage p) (range_with_len a n)))
-first_cut p a zero = tt
-first_cut p a (suc n) = (refl, first_cut p (a + 1) n)
+first_cut : (by_key : Bool) (p : Layout) (a n : ℕ) → Three (Led IsRun Grows true) (replicate n (map (λ b. []) (sources p))) (replicate n []) (lines_of (map (first_stage by_key p) (range_with_len a n)))
+first_cut by_key p a zero = tt
+first_cut by_key p a (suc n) = (refl, first_cut by_key p (a + 1) n)
 
 first_cuts : (p : Layout) (senders : List Line) (rs : List Reader) → Three (Led IsRun Grows true) (replicate p.stages (map (λ b. []) (sources p))) (replicate p.stages []) senders
     → Edges IsRun Grows (λ (v : View). v.cut) (map (first_view p) rs) (replicate (length rs) (replicate p.stages [])) senders
@@ -63,16 +63,16 @@ first_floors : (p : Layout) (rs : List Reader) → Pointwise IsFloor (map (first
 first_floors p [] = tt
 first_floors p (r ∷ rs) = (at_most_none (lengths_of (first_view p r).is.cut), first_floors p rs)
 
-pub start_wired : (p : Layout) → IsPlan p → Wired (start p)
-start_wired p g = record {
+pub start_wired : (by_key : Bool) (p : Layout) → IsPlan p → Wired (start by_key p)
+start_wired by_key p g = record {
   good = g;
   bases = λ b n at. base b n (range_map_get (first_base p) 0 (base_count p) b n at);
   counted = length-map-range_with_len (first_base p) 0 (base_count p);
-  staged = length-map-range_with_len (first_stage p) 0 p.stages;
-  planned = each_map_of (λ (n : Node Stage). n.is.plan ≡ p) (first_stage p) (range_with_len 0 p.stages) (λ s. refl);
+  staged = length-map-range_with_len (first_stage by_key p) 0 p.stages;
+  planned = each_map_of (λ (n : Node Stage). n.is.plan ≡ p) (first_stage by_key p) (range_with_len 0 p.stages) (λ s. refl);
   viewed = first_readers p (readers p);
-  lines = first_edges p 0 p.stages (source_logs p (map (first_base p) (range_with_len 0 (base_count p)))) (first_lines p (range_with_len 0 (base_count p)) (sources p));
-  cuts = first_cuts p (lines_of (map (first_stage p) (range_with_len 0 p.stages))) (readers p) (first_cut p 0 p.stages);
+  lines = first_edges by_key p 0 p.stages (source_logs p (map (first_base p) (range_with_len 0 (base_count p)))) (first_lines p (range_with_len 0 (base_count p)) (sources p));
+  cuts = first_cuts p (lines_of (map (first_stage by_key p) (range_with_len 0 p.stages))) (readers p) (first_cut by_key p 0 p.stages);
   callers = each_replicate (IsCaller (map (first_view p) (readers p))) most_sessions (first_caller p) (record { floors = first_floors p (readers p); acks = tt });
   sixteen = refl;
 }
@@ -96,9 +96,9 @@ replicate_get zero x i y at = cc
 replicate_get (suc n) x zero y at = cc
 replicate_get (suc n) x (suc i) y at = replicate_get n x i y at
 
-pub start_good : (p : Layout) → IsPlan p → Good (start p) [] []
-start_good p g = record {
-  wired = start_wired p g;
+pub start_good : (by_key : Bool) (p : Layout) → IsPlan p → Good (start by_key p) [] []
+start_good by_key p g = record {
+  wired = start_wired by_key p g;
   history = record {
     legal = tt;
     logs = λ b n at. subst (IsLogOf [] b) (sym (range_map_get (first_base p) 0 (base_count p) b n at).1) (record { log = refl; authors = refl });

@@ -1,5 +1,5 @@
 -- Schedules over stories and votes, and their replies.
-use Rattle.std.proofs.Common.{◌≡◌, ℕ, List, [], ◌∷◌, ◌++◌, refl, Some, None}
+use Rattle.std.proofs.Common.{true, false, ◌≡◌, ℕ, List, [], ◌∷◌, ◌++◌, refl, Some, None}
 use Rattle.row.specs.Cells.{Cells}
 use Rattle.row.specs.declared.refused.Refused.TheVariants.{Stopped, Behind, UnknownPlace}
 use Rattle.plan.specs.Recipes.{votes_small}
@@ -29,12 +29,12 @@ counts a b = (n 1 ∷ n 7 ∷ n a ∷ []) ∷ (n 2 ∷ n 7 ∷ n b ∷ []) ∷ [
 abbrev pub cut : ℕ → ℕ → ℕ → ℕ → Lengths
 cut a b c d = (a ∷ b ∷ []) ∷ (c ∷ d ∷ []) ∷ []
 
-pub to_the_gather : replies (start votes_small) prelude ≡ prelude_replies
+pub to_the_gather : replies (start true votes_small) prelude ≡ prelude_replies
 to_the_gather = refl
 
 -- after the prelude
 abbrev pub after : List Event → List Reply
-after es = replies (start votes_small) (prelude ++ es)
+after es = replies (start true votes_small) (prelude ++ es)
 
 -- an update after its piece
 pub update_after_piece :
@@ -86,13 +86,13 @@ pub wanted_twice : after (wants ∷ settle ∷ count 0 by_author ∷ []) ≡ pre
 wanted_twice = refl
 
 pub empty_edges :
-    replies (start votes_small) (goes (stage 0) view ∷ goes (stage 9) view ∷ deliver None ∷ fence 16 ∷ fence 0 ∷ settle ∷ [])
+    replies (start true votes_small) (goes (stage 0) view ∷ goes (stage 9) view ∷ deliver None ∷ fence 16 ∷ fence 0 ∷ settle ∷ [])
     ≡ idle ∷ refused UnknownPlace ∷ refused UnknownPlace ∷ refused UnknownPlace ∷ fence_sent ∷ settled (0 ∷ []) ∷ []
 empty_edges = refl
 
 -- a write that a fence's markers have overtaken
 pub fence_behind :
-    replies (start votes_small) (
+    replies (start true votes_small) (
     fence 0 ∷ story 1 7
     ∷ goes (base 0) (stage 0) ∷ goes (base 0) (stage 1) ∷ goes (base 1) (stage 0) ∷ goes (base 1) (stage 1) ∷ goes (stage 0) view ∷ goes (stage 1) view
     ∷ settle ∷ fence 0 ∷ settle ∷ [])
@@ -101,6 +101,15 @@ fence_behind = refl
 
 -- a second fence takes the place of an open one
 pub fence_again :
-    replies (start votes_small) (story 1 7 ∷ fence 1 ∷ wants ∷ settle ∷ tries ∷ fence 0 ∷ fence 0 ∷ settle ∷ [])
+    replies (start true votes_small) (story 1 7 ∷ fence 1 ∷ wants ∷ settle ∷ tries ∷ fence 0 ∷ fence 0 ∷ settle ∷ [])
     ≡ accepted 0 0 0 ∷ fence_sent ∷ wanted ∷ settled (1 ∷ []) ∷ hit [] (cut 1 0 1 0) ∷ fence_sent ∷ fence_sent ∷ settled (0 ∷ []) ∷ []
 fence_again = refl
+
+-- with the right side held in full no base shard is asked
+pub held_in_full :
+    replies (start false votes_small) (
+    story 1 7 ∷ vote 10 1 ∷ settle ∷ wants ∷ goes view (stage 0) ∷ goes view (stage 1) ∷ goes (stage 1) (base 1)
+    ∷ goes (stage 0) view ∷ tries ∷ goes (stage 1) view ∷ tries ∷ []
+    ) ≡ accepted 0 0 0 ∷ accepted 1 0 0 ∷ settled [] ∷ wanted ∷ delivered ∷ delivered ∷ idle
+    ∷ delivered ∷ miss ∷ delivered ∷ hit ((n 1 ∷ n 7 ∷ n 1 ∷ []) ∷ []) (cut 1 1 1 1) ∷ []
+held_in_full = refl

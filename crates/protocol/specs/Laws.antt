@@ -1,5 +1,5 @@
 -- What holds of every schedule and of every step, beside the replies.
-use Rattle.std.specs.Prelude.{◌≡◌, ℕ, ◌<◌, ◌≤◌, ◌+◌, true, List, [], ◌∷◌, length, Option, Some, None, slice_get, ◌&&◌, ◌++◌}
+use Rattle.std.specs.Prelude.{◌≡◌, ℕ, ◌<◌, ◌≤◌, ◌+◌, Bool, true, List, [], ◌∷◌, length, Option, Some, None, slice_get, ◌&&◌, ◌++◌}
 use mathlib.Core.List.{IsPrefix}
 use Rattle.plan.specs.Layouts.{Layout, view_at}
 use Rattle.plan.specs.Profile.{IsPlan}
@@ -47,9 +47,9 @@ abbrev pub world_after : World → List Event → World
 world_after w [] = w
 world_after w (e ∷ es) = world_after (step w e).world es
 
--- for every plan and every schedule: no packet is out of turn
+-- for every plan and every schedule, with the right side by key or held in full: no packet is out of turn
 abbrev pub EveryTurn : Type 0
-EveryTurn = (p : Layout) → IsPlan p → (events : List Event) → StagesInTurn (world_after (start p) events) × ViewsInTurn (world_after (start p) events)
+EveryTurn = (by_key : Bool) (p : Layout) → IsPlan p → (events : List Event) → StagesInTurn (world_after (start by_key p) events) × ViewsInTurn (world_after (start by_key p) events)
 
 -- ---- packets of base shards
 -- each of the further entries is lawful at the front before it

@@ -126,4 +126,4 @@ AreLegal p events rs = (h : List Item) × IsHistoryOf p events rs h
 
 -- for every plan and every schedule the replies, from the empty world on, tell of a legal history
 abbrev pub EverySchedule : Type 0
-EverySchedule = (p : Layout) → IsPlan p → (events : List Event) → AreLegal p events (replies (start p) events)
+EverySchedule = (by_key : Bool) (p : Layout) → IsPlan p → (events : List Event) → AreLegal p events (replies (start by_key p) events)

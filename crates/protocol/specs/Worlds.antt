@@ -1,5 +1,5 @@
 -- All domains and edges in one value, as far as keys go.
-use Rattle.std.specs.Prelude.{ℕ, Bool, true, List, [], map, length, replicate, Option, Some, None}
+use Rattle.std.specs.Prelude.{ℕ, Bool, true, false, List, [], map, length, replicate, Option, Some, None}
 use Rattle.std.specs.List.{range_with_len}
 use Rattle.plan.specs.Layouts.{SideLayout, Layout}
 use Rattle.model.specs.Places.{base_count, sources}
@@ -50,15 +50,16 @@ first_line p = map (λ b. []) (sources p)
 abbrev pub first_base : Layout → ℕ → Node Base
 first_base p b = record { is = record { plan = p; base = b; entries = []; authors = [] }; runs = true }
 
--- a right side is by key from the start
-abbrev pub first_right : Option SideLayout → Option Keys
-first_right None = None
-first_right (Some side) = Some no_keys
+-- a right side, where there is one, is by key from the start, with no key filled, or held in full
+abbrev pub first_right : (by_key : Bool) → Option SideLayout → Option Keys
+first_right false side = None
+first_right true None = None
+first_right true (Some side) = Some no_keys
 
 -- stage shard s, which knows nothing yet
-abbrev pub first_stage : Layout → ℕ → Node Stage
-first_stage p s = record {
-  is = record { plan = p; shard = s; line = first_line p; right = first_right p.right; pending = []; asked = None; marks = [] };
+abbrev pub first_stage : (by_key : Bool) → Layout → ℕ → Node Stage
+first_stage by_key p s = record {
+  is = record { plan = p; shard = s; line = first_line p; right = first_right by_key p.right; pending = []; asked = None; marks = [] };
   runs = true;
 }
 
@@ -77,12 +78,12 @@ no_queues receivers senders = replicate receivers (replicate senders [])
 abbrev pub first_caller : Layout → Caller
 first_caller p = record { number = 0; floors = map (λ r. []) (readers p); fence = None }
 
--- all domains, of which nothing has been asked
-abbrev pub start : Layout → World
-start p = record {
+-- all domains, of which nothing has been asked; the right side is by key or held in full
+abbrev pub start : (by_key : Bool) → Layout → World
+start by_key p = record {
   plan = p;
   bases = map (first_base p) (range_with_len 0 (base_count p));
-  stages = map (first_stage p) (range_with_len 0 p.stages);
+  stages = map (first_stage by_key p) (range_with_len 0 p.stages);
   views = map (first_view p) (readers p);
   to_stage = no_queues p.stages (length (sources p));
   to_view = no_queues (length (readers p)) p.stages;
