@@ -71,13 +71,6 @@ impl<F: Fronts> StagePacket<F> {
         }
     }
 
-    /// What its type says of it.
-    pub fn is_true(&self)
-        ensures { IsTrueStage self.now }
-    {
-        let _stage = self.stage;
-    }
-
     /// The stage shard that it comes from.
     pub fn stage(&self) -> usize
         ensures { result ≡ self.now.stage }
@@ -90,6 +83,13 @@ impl<F: Fronts> StagePacket<F> {
         ensures { result ≡ record { view = self.now.view; shard = self.now.shard } }
     {
         self.reader
+    }
+
+    /// What its type says of it.
+    pub fn is_true(&self)
+        ensures { IsTrueStage self.now }
+    {
+        let _stage = self.stage;
     }
 
     /// Its parts, moved out of it.
