@@ -1,5 +1,5 @@
 -- A write that its log allows.
-use Rattle.std.proofs.Common.{◌≡◌, ℕ, ◌+◌, ◌<◌, ◌≤◌, true, List, [], ◌∷◌, ◌++◌, length, length-append, slice_get, slice_index_or, slice_set, Option, Some, None, Result, Ok, Err, IfOk, IfErr, OnOk, IfSome, is_err, inl, refl, ap, sym, ◌∙◌, subst, arith}
+use Rattle.std.proofs.Common.{◌≡◌, ℕ, ◌+◌, ◌<◌, ◌≤◌, true, List, [], ◌∷◌, ◌++◌, length, length-append, slice_get, slice_index_or, slice_set, Option, Some, None, Result, Ok, Err, IfOk, IfErr, OnOk, OnErr, IfSome, is_err, inl, refl, ap, sym, ◌∙◌, subst, arith}
 use Rattle.std.specs.Option.{option_map}
 use Rattle.std.specs.declared.alloc.AllocError.{AllocError}
 use Rattle.row.specs.Changes.{Turns}
@@ -106,30 +106,29 @@ module _ (p : Layout) (table : ℕ) (l : LogView) (authors : List Author) (sh : 
   turned e brings = let t = brings l.entries h.at in subst (λ k. Turns (rows_of k l.entries) (records_of k (rows_of k l.entries) e) (rows_of k (l.entries ++ e ∷ []))) own_key (subst (λ rs. Turns (rows_of sh.key l.entries) rs (rows_of sh.key (l.entries ++ e ∷ []))) t.0 t.1)
 
   -- each part is told truly
-  pub parts_true : {V : Type 0} (view : V → List (List Record)) (count : V → ℕ) (o : Option V) (m : LogView) (e : Change) (from : ℕ) → ((v : V) → count v ≡ length (view v)) → option_map view o ≡ option_map (λ (side : SideLayout). parts_by side.key p.stages (records_at sh e)) (side_in p table) → m ≡ with_entry l e → from ≡ sh.length → IfSome o (λ v. Brings sh e)
-      → IfSome o (λ v. (j : ℕ) → j < count v → IsTrueBase (part_packet m from (view v) j))
-  parts_true view count None m e from counts is says starts brings = tt
-  parts_true view count (Some v) m e from counts is says starts brings = λ j lt.
-      let s = split_by view (Some v) (side_in p table) (records_at sh e) p.stages v is refl in
-      let n = split_count s.0.key p.stages (records_at sh e) (view v) s.2 in
-      let c = counts v in
-      part_is_true (base_of l authors) e m from p.stages (records_at sh e) (next_of_log m e from p.stages says starts refl brings) s.0 (view v) j (omega (arith, lt, n, c)) s.2 (side_is ∙ s.1) (turned e brings)
+  pub parts_true : (o : Option (List (List Record))) (m : LogView) (e : Change) (from : ℕ) → o ≡ option_map (λ (side : SideLayout). parts_by side.key p.stages (records_at sh e)) (side_in p table) → m ≡ with_entry l e → from ≡ sh.length → IfSome o (λ v. Brings sh e)
+      → IfSome o (λ v. (j : ℕ) → j < length v → IsTrueBase (part_packet m from v j))
+  parts_true None m e from is says starts brings = tt
+  parts_true (Some v) m e from is says starts brings = λ j lt.
+      let s = split_by (side_in p table) (records_at sh e) p.stages v is in
+      let n = split_count s.0.key p.stages (records_at sh e) v s.2 in
+      part_is_true (base_of l authors) e m from p.stages (records_at sh e) (next_of_log m e from p.stages says starts refl brings) s.0 v j (omega (arith, lt, n)) s.2 (side_is ∙ s.1) (turned e brings)
 
-  pub parts_count : {V : Type 0} (view : V → List (List Record)) (count : V → ℕ) (o : Option V) (e : Change) (k : ℕ) → ((v : V) → count v ≡ length (view v)) → option_map view o ≡ option_map (λ (side : SideLayout). parts_by side.key p.stages (records_at sh e)) (side_in p table) → k ≡ l.plan.stages → IfSome o (λ v. count v ≡ k)
-  parts_count view count None e k counts is at = tt
-  parts_count view count (Some v) e k counts is at =
-      let s = split_by view (Some v) (side_in p table) (records_at sh e) p.stages v is refl in
-      counts v ∙ split_count s.0.key p.stages (records_at sh e) (view v) s.2 ∙ sym (at ∙ ap (λ (q : Layout). q.stages) h.plan)
+  pub parts_count : (o : Option (List (List Record))) (e : Change) (k : ℕ) → o ≡ option_map (λ (side : SideLayout). parts_by side.key p.stages (records_at sh e)) (side_in p table) → k ≡ l.plan.stages → IfSome o (λ v. length v ≡ k)
+  parts_count None e k is at = tt
+  parts_count (Some v) e k is at =
+      let s = split_by (side_in p table) (records_at sh e) p.stages v is in
+      split_count s.0.key p.stages (records_at sh e) v s.2 ∙ sym (at ∙ ap (λ (q : Layout). q.stages) h.plan)
 
   -- what is told is what the protocol sends
-  pub told_is : {V : Type 0} (view : V → List (List Record)) (o : Option V) (m : LogView) (e : Change) (from k : ℕ) → option_map view o ≡ option_map (λ (side : SideLayout). parts_by side.key p.stages (records_at sh e)) (side_in p table) → m ≡ with_entry l e → from ≡ sh.length → IfSome o (λ v. Brings sh e) → k ≡ l.plan.stages
-      → told m from (option_map view o) k ≡ to_stages l.plan (side_of l.plan l.base) (entry_packet (base_of l authors) e)
-  told_is {V} view o m e from k is says starts brings at =
+  pub told_is : (o : Option (List (List Record))) (m : LogView) (e : Change) (from k : ℕ) → o ≡ option_map (λ (side : SideLayout). parts_by side.key p.stages (records_at sh e)) (side_in p table) → m ≡ with_entry l e → from ≡ sh.length → IfSome o (λ v. Brings sh e) → k ≡ l.plan.stages
+      → told m from o k ≡ to_stages l.plan (side_of l.plan l.base) (entry_packet (base_of l authors) e)
+  told_is o m e from k is says starts brings at =
       let n : p.stages ≡ l.plan.stages = ap (λ (q : Layout). q.stages) (sym h.plan) in
-      ap (told m from (option_map view o)) (at ∙ sym n) ∙ ap (λ ps. told m from ps p.stages) (is ∙ ap (option_map (λ (side : SideLayout). parts_by side.key p.stages (records_at sh e))) (sym side_is))
+      ap (told m from o) (at ∙ sym n) ∙ ap (λ ps. told m from ps p.stages) (is ∙ ap (option_map (λ (side : SideLayout). parts_by side.key p.stages (records_at sh e))) (sym side_is))
       ∙ told_entry (base_of l authors) e m from p.stages (records_at sh e) n (side_of l.plan l.base) (λ side some. next_of_log m e from p.stages says starts refl (has o is (sym side_is ∙ some) brings))
     where
-      has : (x : Option V) → option_map view x ≡ option_map (λ (side : SideLayout). parts_by side.key p.stages (records_at sh e)) (side_in p table) → {side : SideLayout} → side_in p table ≡ Some side → IfSome x (λ v. Brings sh e) → Brings sh e
+      has : (x : Option (List (List Record))) → x ≡ option_map (λ (side : SideLayout). parts_by side.key p.stages (records_at sh e)) (side_in p table) → {side : SideLayout} → side_in p table ≡ Some side → IfSome x (λ v. Brings sh e) → Brings sh e
       has None same {side} some b = absurd cc
       has (Some v) same some b = b
 
@@ -165,6 +164,11 @@ module _ {F : Type 0} (log : F → LogView) (authors : F → List Author) where
       subst (λ r. OnOk r (Goes log authors (write_of w) old (appended (base_at log authors old) w.session w.number (change_of w.entry)) out2 new)) (sym ok.0)
       (inl (done_with log authors (write_of w) old new (appended (base_at log authors old) w.session w.number (change_of w.entry)) (answer_of w None index (Some f)) f out2 (rw (says, wrote) refl) (ap (λ (o : OutboxView F). o.reply) ok.1)
       (ap (λ k. Some (accepted k)) at) (ap (λ (o : OutboxView F). packets_on o.edges) ok.1 ∙ on ∙ is) refl refl shows.0 shows.1 n stopped))
+
+  -- an error after the step is that of a front
+  pub memory_told : (P : Type 0) (w : Write) (told : Result F AllocError) (result : Result (Unit {0}) Refused) (out1 out2 : OutboxView F) (index : ℕ) → IfOk told (λ f. (result ≡ Ok tt) × (out2 ≡ record out1 { reply = Some (answer_of w None index (Some f)) })) → OnErr told P → result ≡ Err NoMemory → P
+  memory_told P w (Err e) result out1 out2 index ok refused is = refused
+  memory_told P w (Ok f) result out1 out2 index ok refused is = absurd cc
 
   pub edges_told : (w : Write) (told : Result F AllocError) (result : Result (Unit {0}) Refused) (out1 out2 : OutboxView F) (index : ℕ) → IfOk told (λ f. (result ≡ Ok tt) × (out2 ≡ record out1 { reply = Some (answer_of w None index (Some f)) }))
       → IfErr told (λ e. (result ≡ Err NoMemory) × (out2 ≡ record out1 { reply = Some (answer_of w None index None) })) → length out2.edges ≡ length out1.edges

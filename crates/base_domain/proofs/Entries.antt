@@ -25,10 +25,9 @@ same_range f g a zero h = refl
 same_range f g a (suc n) h = rw (h a (omega arith), same_range f g (a + 1) n (λ j lt. h j (omega (arith, lt)))) refl
 
 -- the records are split where there is a side
-pub split_by : {V : Type 0} (view : V → List (List Record)) (o : Option V) (so : Option SideLayout) (recs : List Record) (n : ℕ) (v : V) → option_map view o ≡ option_map (λ (side : SideLayout). parts_by side.key n recs) so → o ≡ Some v
-    → (side : SideLayout) × (so ≡ Some side) × (view v ≡ parts_by side.key n recs)
-split_by view o None recs n v is some = absurd cc
-split_by view o (Some side) recs n v is some = let same : view v ≡ parts_by side.key n recs = cc in (side, refl, same)
+pub split_by : (so : Option SideLayout) (recs : List Record) (n : ℕ) (v : List (List Record)) → Some v ≡ option_map (λ (side : SideLayout). parts_by side.key n recs) so → (side : SideLayout) × (so ≡ Some side) × (v ≡ parts_by side.key n recs)
+split_by None recs n v is = absurd cc
+split_by (Some side) recs n v is = let same : v ≡ parts_by side.key n recs = cc in (side, refl, same)
 
 pub split_count : (column n : ℕ) (recs : List Record) (parts : List (List Record)) → parts ≡ parts_by column n recs → length parts ≡ n
 split_count column n recs parts is = ap length is ∙ length-map-range_with_len (λ j. records_for column n j recs) 0 n

@@ -1,7 +1,6 @@
 -- The packets of an entry, part by part.
 use Rattle.std.proofs.Common.{◌≡◌, ℕ, ◌+◌, ◌<◌, List, [], ◌∷◌, ◌++◌, map, length, length-append, get_or, Option, Some, None, refl, ap, sym, ◌∙◌, subst, arith}
 use Rattle.std.specs.List.{range_with_len}
-use Rattle.std.specs.Option.{option_map}
 use Rattle.std.proofs.lemmas.List.FromFn.{length-range_with_len}
 use Rattle.row.specs.declared.record.Record.{Record}
 use Rattle.model.specs.Fronts.{LogView}
@@ -33,9 +32,8 @@ pub part_true : (l m : LogView) (from i : ℕ) (all : List (List Record)) (x : L
 part_true l m from i all x e at h = subst IsTrueBase (sym (part_is l m from i all x e at)) h
 
 -- ---- all of them
-pub told_some : {V : Type 0} (view : V → List (List Record)) (l : LogView) (from n m : ℕ) (o : Option V) (v : V) (xs : List BasePacketView) (sent : List (List BasePacketView)) → o ≡ Some v → xs ≡ map (part_packet l from (view v)) (range_with_len 0 m) → m ≡ n → sent ≡ map (λ x. x ∷ []) xs
-    → sent ≡ told l from (option_map view o) n
-told_some view l from n m o v xs sent some is count each = rw some (each ∙ each_one (part_packet l from (view v)) m xs is ∙ ap (λ k. map (λ j. part_packet l from (view v) j ∷ []) (range_with_len 0 k)) count)
+pub told_some : (l : LogView) (from n m : ℕ) (o : Option (List (List Record))) (v : List (List Record)) (xs : List BasePacketView) (sent : List (List BasePacketView)) → o ≡ Some v → xs ≡ map (part_packet l from v) (range_with_len 0 m) → m ≡ n → sent ≡ map (λ x. x ∷ []) xs → sent ≡ told l from o n
+told_some l from n m o v xs sent some is count each = rw some (each ∙ each_one (part_packet l from v) m xs is ∙ ap (λ k. map (λ j. part_packet l from v j ∷ []) (range_with_len 0 k)) count)
 
 same_none : {X Y : Type 0} (xs : List X) (ys : List Y) → length xs ≡ length ys → none_of {X = BasePacketView} xs ≡ none_of ys
 same_none [] [] h = refl
@@ -47,5 +45,5 @@ same_none (x ∷ xs) (y ∷ ys) h = ap (λ l. [] ∷ l) (same_none xs ys (omega 
 pub none_to : {X : Type 0} (xs : List X) (n : ℕ) (sent : List (List BasePacketView)) → length xs ≡ n → sent ≡ none_of xs → sent ≡ none_of (range_with_len 0 n)
 none_to xs n sent count none = none ∙ same_none xs (range_with_len 0 n) (count ∙ sym (length-range_with_len 0 n))
 
-pub told_none : {V X : Type 0} (view : V → List (List Record)) (l : LogView) (from n : ℕ) (o : Option V) (xs : List X) (sent : List (List BasePacketView)) → o ≡ None → length xs ≡ n → sent ≡ none_of xs → sent ≡ told l from (option_map view o) n
-told_none view l from n o xs sent are count none = rw are (none_to xs n sent count none)
+pub told_none : {X : Type 0} (l : LogView) (from n : ℕ) (o : Option (List (List Record))) (xs : List X) (sent : List (List BasePacketView)) → o ≡ None → length xs ≡ n → sent ≡ none_of xs → sent ≡ told l from o n
+told_none l from n o xs sent are count none = rw are (none_to xs n sent count none)

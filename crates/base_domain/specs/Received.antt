@@ -28,6 +28,12 @@ IsFor l sessions (write s m e) =
 IsFor l sessions (request s a) = s < l.plan.stages
 IsFor l sessions (marker m) = Unit {0}
 
+-- it is a write
+abbrev pub IsWrite : ToBase → Type 0
+IsWrite (write s m e) = Unit {0}
+IsWrite (request s a) = ⊥
+IsWrite (marker m) = ⊥
+
 -- what the log refuses the entry with
 abbrev pub refusal_at : LogView → Change → Option Refused
 refusal_at l e = refusal (layout_of l.plan l.base).key limit l.entries e

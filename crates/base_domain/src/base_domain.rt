@@ -1,10 +1,10 @@
 //! One base shard with the right to append to its log.
-ghost use Rattle.std.specs.Prelude.{◌≡◌, ◌<◌, ◌≤◌, Err, [], ◌∷◌, true, false, Some, None, length, map, replicate, IfOk, OnOk, OnErr, IfErr, IsOkUnless};
+ghost use Rattle.std.specs.Prelude.{◌≡◌, ◌≢◌, ◌<◌, ◌≤◌, Err, [], ◌∷◌, true, false, Some, None, length, map, replicate, IfOk, OnOk, OnErr, IfErr, IsOkUnless};
 ghost use Rattle.model.specs.Entries.{change_of};
 ghost use Rattle.packet.specs.Messages.{none_of};
 ghost use Rattle.packet.specs.Outboxes.{IsClear, packets_on};
 ghost use Rattle.std.specs.List.{range_with_len};
-ghost use Rattle.base_domain.specs.Received.{Fails, Goes, IsAnswered, IsCutShort, IsDone, IsFor, base_at, refusal_at};
+ghost use Rattle.base_domain.specs.Received.{Fails, Goes, IsAnswered, IsCutShort, IsDone, IsFor, IsWrite, base_at, refusal_at};
 ghost use Rattle.packet.specs.Codes.{mark_of};
 ghost use Rattle.protocol.specs.Bases.{declined, next_of, request, marker};
 ghost use Rattle.model.specs.Places.{layout_of, table_of};
@@ -216,6 +216,7 @@ impl<'p, F: Fronts> BaseDomain<'p, F> {
         ensures refused { IfErr result (λ e. Fails F.log F.authors (write_of write) self.old
             (quiet (base_at F.log F.authors self.old) (Some (declined refused)))
             e out.new self.new) }
+        ensures moved { result ≢ Err Refused.NoMemory }
         ensures edges { length out.new.edges ≡ length out.old.edges }
     {
         let Ok(mut front) = F::of(&self.right, alloc) else {
@@ -264,6 +265,7 @@ impl<'p, F: Fronts> BaseDomain<'p, F> {
         ensures refused { IfErr result (λ e. Fails F.log F.authors (write_of write) self.old
             (appended (base_at F.log F.authors self.old) write.session write.number
             (change_of write.entry)) e out.new self.new) }
+        ensures memory { result ≡ Err Refused.NoMemory → F.may_refuse }
         ensures edges { length out.new.edges ≡ length out.old.edges }
     {
         let made = ready_for(
@@ -322,6 +324,7 @@ impl<'p, F: Fronts> BaseDomain<'p, F> {
             (step (base_at F.log F.authors self.old) (write_of write)) out.new self.new) }
         ensures refused { IfErr result (λ e. Fails F.log F.authors (write_of write) self.old
             (step (base_at F.log F.authors self.old) (write_of write)) e out.new self.new) }
+        ensures memory { result ≡ Err Refused.NoMemory → F.may_refuse }
         ensures edges { length out.new.edges ≡ length out.old.edges }
     {
         if write.number < self.next[write.session] {
@@ -340,8 +343,9 @@ impl<'p, F: Fronts> BaseDomain<'p, F> {
     /// a marker is sent on, a write is answered and its packets are sent. A write may instead be
     /// refused for memory, and nothing changes. Errors: `Stopped` where it had stopped, or where
     /// its log has gone on without it, as the front in the reply shows; `NoMemory` where that was
-    /// refused for a packet, and then the reply to a write says that it was accepted. After an
-    /// error nothing is on the edges, and it has stopped. Cost: that of `BaseShard::check`,
+    /// refused for a packet, and then the reply to a write says that it was accepted. A write comes
+    /// to that only over fronts that may be refused for memory: all other room is made before its
+    /// entry is appended. After an error nothing is on the edges, and it has stopped. Cost: that of `BaseShard::check`,
     /// `changes` and `commit` for a write, of `BaseShard::lookup` for a request.
     pub fn receive(
         &mut self,
@@ -360,6 +364,8 @@ impl<'p, F: Fronts> BaseDomain<'p, F> {
         ensures refused { self.old.stopped ≡ false → IfErr result (λ e. Fails F.log F.authors
             (message_of message) self.old (step (base_at F.log F.authors self.old)
             (message_of message)) e out.new self.new) }
+        ensures memory { IsWrite (message_of message) → result ≡ Err Refused.NoMemory
+            → F.may_refuse }
         ensures edges { length out.new.edges ≡ length out.old.edges }
     {
         if self.stopped {

@@ -5,4 +5,5 @@ pub mod base_domain;
 pub mod message;
 pub mod packets;
 mod ready;
+mod stage_parts;
 mod tells;

@@ -13,26 +13,26 @@ ghost use Rattle.packet.specs.Split.{parts_by};
 ghost use Rattle.base_domain.specs.Told.{Brings};
 
 use crate::packets::side_at;
+use crate::stage_parts::StageParts;
 use base::shard::BaseShard;
 use model::entry::Entry;
 use model::fronts::Fronts;
 use packet::outbox::Outbox;
 use packet::split::split;
 use plan::plan::Plan;
-use row::record::Record;
 use row::refused::Refused;
 use std::alloc::{AllocError, Global};
 
-/// What the step of a write needs: a copy of the entry, and its records for each stage shard, where
-/// the table is one of the stage.
+/// What the step of a write needs: a copy of the entry, and its records for each stage shard with
+/// the room of their packets, where the table is one of the stage.
 #[derive(Drop)]
-pub(crate) struct Ready {
+pub(crate) struct Ready<F: Fronts> {
     pub(crate) kept: Entry,
-    pub(crate) parts: Option<Vec<Vec<Record>>>,
+    pub(crate) parts: Option<StageParts<F>>,
 }
 
 /// The records of an entry by stage shard and a copy of it, for which the shard and the outbox then
-/// have room.
+/// have room, and the packets too.
 pub(crate) fn ready_for<F: Fronts>(
     alloc: Global,
     plan: &Plan,
@@ -40,14 +40,13 @@ pub(crate) fn ready_for<F: Fronts>(
     shard: &mut BaseShard,
     entry: &Entry,
     out: &mut Outbox<F>,
-) -> Result<Ready, Refused>
+) -> Result<Ready<F>, Refused>
     requires key { HasKey shard.old.key (change_of entry.now) }
     requires lawful { refusal_over shard.old.key shard.old.limit shard.old.rows shard.old.length
         (change_of entry.now) ≡ None }
     ensures kept { IfOk result (λ r. change_of r.kept ≡ change_of entry.now) }
-    ensures parts { IfOk result (λ r. option_map (λ ps. map (λ w. w.items) ps.items) r.parts
-        ≡ option_map (λ side. parts_by side.key plan.now.stages
-        (records_at shard.old (change_of entry.now))) (side_in plan.now table)) }
+    ensures parts { IfOk result (λ r. r.parts ≡ option_map (λ side. parts_by side.key
+        plan.now.stages (records_at shard.old (change_of entry.now))) (side_in plan.now table)) }
     ensures brings { IfOk result (λ r. IfSome r.parts
         (λ ps. Brings shard.old (change_of entry.now))) }
     ensures room { OnOk result (HasRoom shard.new (change_of entry.now)) }
@@ -63,20 +62,19 @@ pub(crate) fn ready_for<F: Fronts>(
     Ok(Ready { kept, parts })
 }
 
-/// The records of an entry by stage shard.
-fn parts_of(
+/// The records of an entry by stage shard, and room for their packets.
+fn parts_of<F: Fronts>(
     alloc: Global,
     plan: &Plan,
     table: usize,
     shard: &BaseShard,
     entry: &Entry,
-) -> Result<Option<Vec<Vec<Record>>>, AllocError>
+) -> Result<Option<StageParts<F>>, AllocError>
     requires key { HasKey shard.now.key (change_of entry.now) }
     requires lawful { refusal_over shard.now.key shard.now.limit shard.now.rows shard.now.length
         (change_of entry.now) ≡ None }
-    ensures parts { IfOk result (λ o. option_map (λ ps. map (λ w. w.items) ps.items) o
-        ≡ option_map (λ side. parts_by side.key plan.now.stages
-        (records_at shard.now (change_of entry.now))) (side_in plan.now table)) }
+    ensures parts { IfOk result (λ o. o ≡ option_map (λ side. parts_by side.key
+        plan.now.stages (records_at shard.now (change_of entry.now))) (side_in plan.now table)) }
     ensures brings { IfOk result (λ o. IfSome o (λ ps. Brings shard.now (change_of entry.now))) }
 {
     plan.keeps_profile();
@@ -84,6 +82,6 @@ fn parts_of(
         return Ok(None);
     };
     let records = shard.changes(alloc, entry)?;
-    let parts = split(alloc, records, side.key(), plan.stages())?;
-    Ok(Some(parts))
+    let by_stage = split(alloc, records, side.key(), plan.stages())?;
+    Ok(Some(StageParts::new(alloc, by_stage)?))
 }

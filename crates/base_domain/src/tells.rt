@@ -11,11 +11,10 @@ ghost use Rattle.base_domain.specs.Received.{IsAnswered};
 ghost use Rattle.base_domain.specs.Told.{part_packet, told};
 
 use crate::message::{ToBase, Write};
+use crate::stage_parts::StageParts;
 use model::fronts::Fronts;
 use packet::answer::Answer;
-use packet::base_packet::BasePacket;
 use packet::outbox::Outbox;
-use row::record::Record;
 use row::refused::Refused;
 use std::alloc::{AllocError, Global};
 
@@ -97,57 +96,34 @@ pub(crate) fn answer_accepted<F: Fronts>(
 }
 
 /// Puts the packets of an entry on the edges, each with the records of its stage shard, and gives a
-/// front that shows the entry. Refused for memory, it leaves all edges clear.
+/// front that shows the entry. Only a front can be refused for memory, where its kind may refuse,
+/// and then all edges stay clear.
 pub(crate) fn tell<F: Fronts>(
     right: &F::Right,
     alloc: Global,
     from: u64,
-    parts: Option<Vec<Vec<Record>>>,
+    parts: Option<StageParts<F>>,
     out: &mut Outbox<F>,
 ) -> Result<F, AllocError>
     requires clear { packets_on out.old.edges ≡ none_of out.old.edges }
     requires room { HaveRoom out.old.edges }
-    requires count { IfSome parts (λ ps. length ps.items ≡ length out.old.edges) }
+    requires count { IfSome parts (λ ps. length ps ≡ length out.old.edges) }
     requires within { from ≤ length (F.log (F.front right.now)).entries }
-    requires truth { IfSome parts (λ ps. (j : ℕ) → j < length ps.items
-        → IsTrueBase (part_packet (F.log (F.front right.now)) from
-        (map (λ w. w.items) ps.items) j)) }
+    requires truth { IfSome parts (λ ps. (j : ℕ) → j < length ps
+        → IsTrueBase (part_packet (F.log (F.front right.now)) from ps j)) }
     ensures front { IfOk result (λ f. (F.log f ≡ F.log (F.front right.now))
         × (F.authors f ≡ F.authors (F.front right.now))) }
-    ensures sent { OnOk result (packets_on out.new.edges ≡ told (F.log (F.front right.now)) from
-        (option_map (λ ps. map (λ w. w.items) ps.items) parts) (length out.old.edges)) }
+    ensures sent { OnOk result (packets_on out.new.edges
+        ≡ told (F.log (F.front right.now)) from parts (length out.old.edges)) }
     ensures unsent { OnErr result (packets_on out.new.edges ≡ none_of out.new.edges) }
+    ensures only { OnErr result F.may_refuse }
     ensures edges { length out.new.edges ≡ length out.old.edges }
     ensures reply { out.new.reply ≡ out.old.reply }
 {
     let front = F::of(right, alloc)?;
     if let Some(parts) = parts {
-        let packets = entry_packets(right, alloc, from, parts)?;
+        let packets = parts.packets(right, alloc, from)?;
         out.send_to_each(packets);
     }
     Ok(front)
-}
-
-/// The packet of an entry for each part.
-fn entry_packets<F: Fronts>(
-    right: &F::Right,
-    alloc: Global,
-    from: u64,
-    parts: Vec<Vec<Record>>,
-) -> Result<Vec<BasePacket<F>>, AllocError>
-    requires within { from ≤ length (F.log (F.front right.now)).entries }
-    requires truth { (j : ℕ) → j < length parts.items
-        → IsTrueBase (part_packet (F.log (F.front right.now)) from
-        (map (λ w. w.items) parts.items) j) }
-    ensures { IfOk result (λ v. v.items ≡ map (part_packet (F.log (F.front right.now)) from
-        (map (λ w. w.items) parts.items)) (range_with_len 0 (length parts.items))) }
-{
-    let mut packets = Vec::new(alloc);
-    let mut stage = 0;
-    for changes in parts {
-        let to = F::of(right, alloc)?;
-        packets.push(BasePacket::new(stage, from, to, changes, None, None))?;
-        stage += 1;
-    }
-    Ok(packets)
 }

@@ -186,6 +186,8 @@ impl<J: Naming> Fronts for Front<J> {
 
     ghost front = { λ l. l };
 
+    ghost may_refuse = { ⊥ };
+
     fn base(&self) -> usize {
         Front::base(self)
     }

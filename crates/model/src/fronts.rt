@@ -1,5 +1,5 @@
 //! What a domain asks of a front, wherever its log stands.
-ghost use Rattle.std.specs.Prelude.{◌≡◌, List, length, IfOk};
+ghost use Rattle.std.specs.Prelude.{◌≡◌, List, length, IfOk, OnErr};
 ghost use Rattle.model.specs.Entries.{change_of};
 ghost use Rattle.model.specs.Fronts.{LogView, IsLog, Agree, AllowsEntry, IsLonger, with_entry, with_author};
 ghost use Rattle.model.specs.Histories.{Author};
@@ -39,6 +39,9 @@ pub trait Fronts: Drop {
     /// The front at which a right appends.
     ghost front: { Self.Right → Self };
 
+    /// A further front of this kind may be refused for memory.
+    ghost may_refuse: { Type 0 };
+
     /// The number of its base shard.
     fn base(&self) -> usize
         ensures { result ≡ (log self.now).base };
@@ -51,14 +54,16 @@ pub trait Fronts: Drop {
     fn is_log(&self)
         ensures { IsLog (log self.now) };
 
-    /// A second copy. Errors: memory only.
+    /// A second copy. Errors: memory only, where this kind may refuse.
     fn again(&self, alloc: Global) -> Result<Self, AllocError>
-        ensures { IfOk result (λ f. (log f ≡ log self.now) × (authors f ≡ authors self.now)) };
+        ensures same { IfOk result (λ f. (log f ≡ log self.now) × (authors f ≡ authors self.now)) }
+        ensures only { OnErr result may_refuse };
 
-    /// The front of a right to append. Errors: memory only.
+    /// The front of a right to append. Errors: memory only, where this kind may refuse.
     fn of(right: &Self::Right, alloc: Global) -> Result<Self, AllocError>
-        ensures { IfOk result (λ f. (log f ≡ log (front right.now))
-            × (authors f ≡ authors (front right.now))) };
+        ensures same { IfOk result (λ f. (log f ≡ log (front right.now))
+            × (authors f ≡ authors (front right.now))) }
+        ensures only { OnErr result may_refuse };
 
     /// The step of a base shard: its log is this front and one entry more, or its word has moved, and
     /// then the right stays as it was. Errors: memory only, before the step.

@@ -130,6 +130,8 @@ impl<'p> Fronts for ListFront<'p> {
 
     ghost front = { λ r. r };
 
+    ghost may_refuse = { Unit {0} };
+
     fn base(&self) -> usize {
         self.base
     }

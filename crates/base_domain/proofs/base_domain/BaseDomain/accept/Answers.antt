@@ -1,11 +1,10 @@
-use Rattle.std.proofs.Common.{◌∙◌, ◌++◌, ◌∷◌, [], length, length-set, map, ap, sym, subst}
-use Rattle.std.proofs.lemmas.List.{length-map}
+use Rattle.std.proofs.Common.{◌∙◌, ◌++◌, ◌∷◌, [], length, length-set, ap, subst}
 use Rattle.model.specs.Entries.{change_of}
 use Rattle.model.specs.Logs.{Change}
 use Rattle.base.specs.Shards.{Shard, IsAt}
 use Rattle.packet.specs.Outboxes.{OutboxView}
 use Rattle.packet.proofs.Sends.{same_count, still_clear}
-use Rattle.base_domain.proofs.Accepts.{lawful_at, allows, same_refusal, truth_next, parts_true, parts_count, told_is, accepted_as, done_told, edges_told, at_room}
+use Rattle.base_domain.proofs.Accepts.{lawful_at, allows, same_refusal, truth_next, parts_true, parts_count, told_is, accepted_as, done_told, memory_told, edges_told, at_room}
 use Rattle.base_domain.proofs.base_domain.BaseDomain.accept.Goals as goal
 
 pub ready_for-made-requires-clause-lawful : goal.ready_for-made-requires-clause-lawful
@@ -36,13 +35,13 @@ tell-told-requires-clause-clear g c = still_clear _ _ c.ready_for-made.ensures.p
 pub tell-told-requires-clause-count : goal.tell-told-requires-clause-count
 tell-told-requires-clause-count g c =
     let edges = rw (← c.self.view_is) at c.requires.edges in
-    parts_count _ _ _ _ c.self.inside.shard c.self.inside.next.items c.self.invariant (λ v. map (λ w. w.items) v.items) (λ v. length v.items) c.in-Ok.ready.parts (change_of c.args.write.entry) (length c.ready_for-made.new.out.edges) (λ v. sym (length-map v.items (λ w. w.items))) c.in-Ok.ensures.parts
+    parts_count _ _ _ _ c.self.inside.shard c.self.inside.next.items c.self.invariant c.in-Ok.ready.parts (change_of c.args.write.entry) (length c.ready_for-made.new.out.edges) c.in-Ok.ensures.parts
     (same_count _ _ c.ready_for-made.ensures.packets ∙ edges)
 
 pub tell-told-requires-clause-truth : goal.tell-told-requires-clause-truth
 tell-told-requires-clause-truth g c =
     let here = rw (c.in-Ok-Here.field-0-is) at c.in-Ok-Here.ensures.here in
-    parts_true _ _ _ _ c.self.inside.shard c.self.inside.next.items c.self.invariant (λ v. map (λ w. w.items) v.items) (λ v. length v.items) c.in-Ok.ready.parts (g.F.Fronts.log (g.F.Fronts.front c.append.new.right)) (change_of c.args.write.entry) c.len-index.result (λ v. sym (length-map v.items (λ w. w.items))) c.in-Ok.ensures.parts here
+    parts_true _ _ _ _ c.self.inside.shard c.self.inside.next.items c.self.invariant c.in-Ok.ready.parts (g.F.Fronts.log (g.F.Fronts.front c.append.new.right)) (change_of c.args.write.entry) c.len-index.result c.in-Ok.ensures.parts here
     (c.len-index.ensures ∙ ap (λ (s : Shard). s.length) c.ready_for-made.ensures.shard) c.in-Ok.ensures.brings
 
 pub answer_accepted-requires : goal.answer_accepted-requires
@@ -77,7 +76,7 @@ returns-in-Ok-Here-clause-done g c =
     let edges = rw (← c.self.view_is) at c.requires.edges in
     let at = c.len-index.ensures ∙ ap (λ (s : Shard). s.length) c.ready_for-made.ensures.shard in
     rw (← c.self.view_is) (done_told g.F.Fronts.log g.F.Fronts.authors c.args.write _ _ c.tell-told.result c.answer_accepted.result c.tell-told.new.out c.answer_accepted.new.out c.len-index.result _ c.answer_accepted.ensures.ok c.answer_accepted.ensures.err c.tell-told.ensures.front c.tell-told.ensures.sent here author (at ∙ c.self.invariant.at.counts)
-    (told_is _ _ _ _ c.self.inside.shard c.self.inside.next.items c.self.invariant (λ v. map (λ w. w.items) v.items) c.in-Ok.ready.parts _ (change_of c.args.write.entry) c.len-index.result (length c.ready_for-made.new.out.edges) c.in-Ok.ensures.parts here at c.in-Ok.ensures.brings (same_count _ _ c.ready_for-made.ensures.packets ∙ edges))
+    (told_is _ _ _ _ c.self.inside.shard c.self.inside.next.items c.self.invariant c.in-Ok.ready.parts _ (change_of c.args.write.entry) c.len-index.result (length c.ready_for-made.new.out.edges) c.in-Ok.ensures.parts here at c.in-Ok.ensures.brings (same_count _ _ c.ready_for-made.ensures.packets ∙ edges))
     (length-set c.self.inside.next.items c.args.write.session _) c.is_err-self-inside.ensures.value)
 
 pub returns-in-Ok-Here-clause-edges : goal.returns-in-Ok-Here-clause-edges
@@ -88,3 +87,6 @@ returns-in-Ok-Moved-clause-edges g c = ap (λ (o : OutboxView g.row.F.Denot). le
 
 pub returns-in-Err-clause-edges : goal.returns-in-Err-clause-edges
 returns-in-Err-clause-edges g c = ap (λ (o : OutboxView g.row.F.Denot). length o.edges) c.decline-in-Err.ensures.only ∙ same_count _ _ c.ready_for-made.ensures.packets
+
+pub returns-in-Ok-Here-clause-memory : goal.returns-in-Ok-Here-clause-memory
+returns-in-Ok-Here-clause-memory g c = memory_told g.F.Fronts.log g.F.Fronts.authors g.F.Fronts.may_refuse c.args.write c.tell-told.result c.answer_accepted.result c.tell-told.new.out c.answer_accepted.new.out c.len-index.result c.answer_accepted.ensures.ok c.tell-told.ensures.only

@@ -11,7 +11,7 @@ use Rattle.base_domain.proofs.base_domain.BaseDomain.markers.Goals as goal
 pub loop-stage-preserved : goal.loop-stage-preserved
 loop-stage-preserved g c =
     let mark = Some (mark_of c.args.mark) in
-    let to : still (base_at g.F.Fronts.log g.F.Fronts.authors c.args.self.now) c.loop-stage.stage None mark ≡ c.marker_packet.result = rw (← c.self.view_is) (sym (c.marker_packet.ensures ∙ same_still _ _ _ _ c.loop-stage.stage None mark c.in_ok-to.ensures.0 c.in_ok-to.ensures.1)) in
+    let to : still (base_at g.F.Fronts.log g.F.Fronts.authors c.args.self.now) c.loop-stage.stage None mark ≡ c.marker_packet.result = rw (← c.self.view_is) (sym (c.marker_packet.ensures ∙ same_still _ _ _ _ c.loop-stage.stage None mark c.in_ok-to.ensures.same.0 c.in_ok-to.ensures.same.1)) in
     made_more (λ s. still (base_at g.F.Fronts.log g.F.Fronts.authors c.args.self.now) s None mark) c.loop-stage.stage c.loop-stage.packets.items c.push.new.self.items c.marker_packet.result c.loop-stage.invariant (sym to) (c.in_ok-push.ensures).items
 
 pub returns : goal.returns

@@ -10,11 +10,11 @@ answer-requires g c =
     let place = rw (← c.self.view_is) at c.requires.place in
     let rises = rw (← c.self.view_is) at c.requires.rises in
     let all = rw (c.in-Ok-Here.field-0-is) at c.in-Ok-Here.ensures.all in
-    inr (inr (c.look.new.self, decided_as g.F.Fronts.log g.F.Fronts.authors g.F.Fronts.is_all c.args.write c.args.refused c.self.inside.next.items f c.look.new.self (c.in-Ok-Here.ensures.log.0 ∙ c.in-Ok.ensures.0) (c.in-Ok-Here.ensures.log.1 ∙ c.in-Ok.ensures.1) all why c.self.invariant.numbers place rises c.self.invariant.below))
+    inr (inr (c.look.new.self, decided_as g.F.Fronts.log g.F.Fronts.authors g.F.Fronts.is_all c.args.write c.args.refused c.self.inside.next.items f c.look.new.self (c.in-Ok-Here.ensures.log.0 ∙ c.in-Ok.ensures.same.0) (c.in-Ok-Here.ensures.log.1 ∙ c.in-Ok.ensures.same.1) all why c.self.invariant.numbers place rises c.self.invariant.below))
 
 pub returns-in-Ok-Here-clause-done : goal.returns-in-Ok-Here-clause-done
 returns-in-Ok-Here-clause-done g c =
     let front = g.F.Fronts.front c.self.inside.right in
     let is : g.F.Fronts.front c.self.inside.right ≡ c.args.self.now.front = ap (λ (d : Domain g.row.F.Denot). d.front) c.self.view_is in
     inl (refused_done g.F.Fronts.log g.F.Fronts.authors c.args.write c.args.refused c.args.self.now c.look.new.self c.args.out.now c.answer.new.out c.answer.ensures c.requires.ready.packets c.requires.edges
-    (c.in-Ok-Here.ensures.log.0 ∙ c.in-Ok.ensures.0 ∙ ap g.F.Fronts.log is) (c.in-Ok-Here.ensures.log.1 ∙ c.in-Ok.ensures.1 ∙ ap g.F.Fronts.authors is) c.requires.running)
+    (c.in-Ok-Here.ensures.log.0 ∙ c.in-Ok.ensures.same.0 ∙ ap g.F.Fronts.log is) (c.in-Ok-Here.ensures.log.1 ∙ c.in-Ok.ensures.same.1 ∙ ap g.F.Fronts.authors is) c.requires.running)
