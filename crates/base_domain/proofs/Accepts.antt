@@ -33,7 +33,8 @@ use Rattle.base_domain.specs.Domains.{Domain, HoldsTruth}
 use Rattle.base_domain.specs.Received.{Goes, IsFor, base_at, refusal_at}
 use Rattle.base_domain.specs.Told.{Brings, part_packet, told}
 use Rattle.base_domain.proofs.Entries.{split_by, split_count, IsNextOf, part_is_true, told_entry}
-use Rattle.base_domain.proofs.Numbers.{absent, below_next, next_more}
+use Rattle.base_domain.proofs.Numbers.{next_more}
+use Rattle.model.proofs.Numbers.{absent, below_next}
 use Rattle.base_domain.proofs.Writes.{done_with}
 
 module _ (p : Layout) (table : ℕ) (l : LogView) (authors : List Author) (sh : Shard) (next : List ℕ) (h : HoldsTruth p table l authors sh next) where
@@ -139,10 +140,6 @@ at_last xs x i at = ap (slice_get (xs ++ x ∷ [])) at ∙ there xs x
     there : {X : Type 0} (ys : List X) (y : X) → slice_get (ys ++ y ∷ []) (length ys) ≡ Some y
     there [] y = refl
     there (z ∷ zs) y = there zs y
-
--- shards of one content refuse the same
-pub same_refusal : (a b : Shard) (e f : Change) → a.key ≡ b.key → a.limit ≡ b.limit → a.rows ≡ b.rows → a.length ≡ b.length → e ≡ f → refusal_over a.key a.limit a.rows a.length e ≡ refusal_over b.key b.limit b.rows b.length f
-same_refusal a b e f key most rows len is = cc
 
 module _ {F : Type 0} (log : F → LogView) (authors : F → List Author) where
   pub accepted_as : (is_all : F → Type 0) (w : Write) (index : ℕ) (told : Result F AllocError) (old new : F) → log new ≡ with_entry (log old) (change_of w.entry) → authors new ≡ with_author (authors old) w.session w.number → index ≡ length (log old).entries → length (authors old) ≡ length (log old).entries

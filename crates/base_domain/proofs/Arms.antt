@@ -1,12 +1,11 @@
 -- Which arm of a step a write takes.
-use Rattle.std.proofs.Common.{◌≡◌, ℕ, ◌<◌, ◌≤◌, true, false, cond, nat_lt, Option, Some, None, Err, ap, ◌∙◌, arith}
+use Rattle.std.proofs.Common.{◌≡◌, ℕ, ◌<◌, ◌≤◌, true, false, cond, nat_lt, Some, None, ap, ◌∙◌, arith}
 use Rattle.std.proofs.lemmas.Bool.Decides.{nat_tests}
 use Rattle.row.specs.declared.refused.Refused.{Refused}
 use Rattle.model.specs.Logs.{Change}
 use Rattle.model.specs.Legal.{limit}
 use Rattle.model.specs.Places.{layout_of}
 use Rattle.model.specs.Refusals.{refusal}
-use Rattle.base.specs.Shards.{verdict}
 use Rattle.protocol.specs.Bases.{Base, write, declined, next_of}
 use Rattle.protocol.specs.BaseSteps.{step, quiet, decided}
 
@@ -19,7 +18,3 @@ pub step_refused : (b : Base) (s m : ℕ) (e : Change) (r : Refused) → next_of
 step_refused b s m e r le is =
     let high : nat_lt m (next_of s b.authors) ≡ false = grind (arith, nat_tests) in
     ap (λ c. cond c (quiet b None) (decided b s m e (refusal (layout_of b.plan b.base).key limit b.entries e))) high ∙ ap (decided b s m e) is
-
-pub refused_verdict : (r : Refused) (o : Option Refused) → Err r ≡ verdict o → o ≡ Some r
-refused_verdict r None e = absurd cc
-refused_verdict r (Some q) e = cc

@@ -3,7 +3,7 @@ use Rattle.std.proofs.Common.{◌≡◌, ℕ, ◌<◌, ◌≤◌, false, List, l
 use Rattle.row.specs.Bags.{Each}
 use Rattle.row.specs.declared.refused.Refused.{Refused}
 use Rattle.model.specs.Entries.{change_of}
-use Rattle.model.specs.Histories.{Author}
+use Rattle.model.specs.Histories.{Author, IsBelow}
 use Rattle.model.specs.Fronts.{LogView}
 use Rattle.packet.specs.Messages.{none_of}
 use Rattle.packet.specs.Answers.{AnswerView, IsDecided}
@@ -12,9 +12,9 @@ use Rattle.protocol.specs.Bases.{ToBase, Done, declined, next_of}
 use Rattle.protocol.specs.BaseSteps.{quiet}
 use Rattle.base_domain.specs.Codes.{answer_of, write_of}
 use Rattle.base_domain.specs.declared.message.Write.{Write}
-use Rattle.base_domain.specs.Domains.{Domain, AreNext, IsBelow}
+use Rattle.base_domain.specs.Domains.{Domain, AreNext}
 use Rattle.base_domain.specs.Received.{IsDone, IsTo, Shows, base_at, refusal_at, verdict_in, verdict_of}
-use Rattle.base_domain.proofs.Numbers.{absent}
+use Rattle.model.proofs.Numbers.{absent}
 use Rattle.base_domain.proofs.Parts.{none_to}
 
 module _ {F : Type 0} (log : F → LogView) (authors : F → List Author) where

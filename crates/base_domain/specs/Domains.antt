@@ -2,7 +2,7 @@
 use Rattle.std.specs.Prelude.{◌≡◌, ℕ, ◌<◌, Bool, List, length, slice_index_or}
 use Rattle.row.specs.Bags.{Each}
 use Rattle.plan.specs.Layouts.{Layout}
-use Rattle.model.specs.Histories.{Author}
+use Rattle.model.specs.Histories.{Author, IsBelow}
 use Rattle.model.specs.Places.{layout_of, table_of}
 use Rattle.model.specs.Legal.{limit}
 use Rattle.model.specs.Fronts.{LogView}
@@ -12,10 +12,6 @@ use Rattle.protocol.specs.Bases.{next_of}
 -- the least numbers that next writes may have are just above those of the log
 abbrev pub AreNext : List ℕ → List Author → Type 0
 AreNext next authors = (s : ℕ) → s < length next → slice_index_or next s 0 ≡ next_of s authors
-
--- the author's number is below its session's next
-abbrev pub IsBelow : List ℕ → Author → Type 0
-IsBelow next a = a.number < slice_index_or next a.session 0
 
 -- the shard stands at the front, under its table's key and the limit of a log, and the next numbers are those of the log
 pub record HoldsTruth (p : Layout) (table : ℕ) (log : LogView) (authors : List Author) (shard : Shard) (next : List ℕ) : Type 0 where

@@ -11,9 +11,9 @@ use Rattle.model.specs.Queries.{answer}
 use Rattle.book.specs.Words.{word_of, count_at}
 use Rattle.model.specs.Cuts.{fronts_of, IsWithin, IsAtMost}
 use Rattle.model.specs.Legal.{IsPast, IsOwn, EachShard, AllowsRead}
-use Rattle.model.specs.Histories.{Item, read, fence, Lengths, len_at, Floors, Place, floor_in, floor_of, floor_at, last_or}
+use Rattle.model.specs.Histories.{Item, read, fence, Lengths, IsSame, len_at, Floors, Place, floor_in, floor_of, floor_at, last_or}
 use Rattle.book.specs.Pages.{Page, adds, history_of, IsAdded, IsAsk}
-use Rattle.book.specs.Sessions.{SessionView, IsSame, own_word, own_items, IsSession, IsAnswered, IsStolen, AreWithin}
+use Rattle.book.specs.Sessions.{SessionView, own_word, own_items, IsSession, IsAnswered, IsStolen, AreWithin}
 use Rattle.model.specs.Tables.{IsTable, with_floor}
 use Rattle.book.proofs.Parts.{count_append, flat_later, floor_blind, IsBlind, flat_quiet}
 use Rattle.model.proofs.Growth.{within_later, fronts_later, own_later}

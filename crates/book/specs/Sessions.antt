@@ -5,7 +5,7 @@ use Rattle.plan.specs.Layouts.{Layout, view_at}
 use Rattle.model.specs.Places.{base_count}
 use Rattle.model.specs.Queries.{Line}
 use Rattle.row.specs.Cells.{Datum, Cells}
-use Rattle.model.specs.Histories.{Item, read, fence, Lengths, len_at, Floors, floor_at, floor_of, Place as PlaceView}
+use Rattle.model.specs.Histories.{Item, read, fence, Lengths, IsSame, Floors, floor_at, floor_of, Place as PlaceView}
 use Rattle.model.specs.Cuts.{fronts_of, IsWithin}
 use Rattle.book.specs.Words.{count_at}
 use Rattle.book.specs.Pages.{Page, IsAdded, IsAsk, IsDone}
@@ -31,10 +31,6 @@ pub record SessionView : Type 0 where
   pub answered : ℕ
   pub floors : Floors
   pub seen : List Item
-
--- the two cuts have the same lengths
-abbrev pub IsSame : Lengths → Lengths → Type 0
-IsSame c d = (s b : ℕ) → len_at c s b ≡ len_at d s b
 
 -- the session's word, and how many items of it were seen
 abbrev pub own_word : Layout → ℕ → ℕ

@@ -1,50 +1,21 @@
 -- Numbers of calls, and what a domain's check says of its log.
-use Rattle.std.proofs.Common.{◌≡◌, ℕ, ◌+◌, ◌<◌, ◌≤◌, ◌==◌, Bool, true, false, List, [], ◌∷◌, ◌++◌, length, take_all, slice_index_or, slice_set, Option, Some, None, Result, Ok, Err, IfErr, refl, ap, sym, ◌∙◌, subst, arith, ◌⊎◌, inl, inr}
-use Rattle.std.proofs.lemmas.Bool.Decides.{nat_tests}
-use Rattle.std.proofs.lemmas.List.{get_or-set_other}
-use Rattle.std.proofs.lemmas.Grind.{get_or-set_at}
+use Rattle.std.proofs.Common.{◌≡◌, ℕ, ◌+◌, ◌<◌, ◌≤◌, List, [], ◌∷◌, ◌++◌, length, take_all, slice_index_or, slice_set, Option, Some, None, Result, Ok, Err, IfErr, refl, ap, sym, ◌∙◌, subst, arith, ◌⊎◌, inl, inr}
 use Rattle.row.specs.Bags.{Each}
-use Rattle.row.proofs.BagLemmas.{Each-weaker}
 use Rattle.row.specs.declared.refused.Refused.{Refused}
 use Rattle.row.specs.declared.refused.Refused.TheVariants.{NoMemory}
 use Rattle.plan.specs.Layouts.{Layout}
 use Rattle.model.specs.Logs.{Change}
 use Rattle.model.specs.Places.{layout_of}
-use Rattle.model.specs.Histories.{Author, log_of, authors_of}
+use Rattle.model.specs.Histories.{Author, IsBelow, log_of, authors_of}
 use Rattle.model.specs.Refusals.{refusal, refusal_over}
 use Rattle.model.specs.Legal.{limit}
 use Rattle.book.specs.Fronts.{FrontView, entries, authors, IsAppended}
 use Rattle.book.proofs.Fronts.{length_authors}
-use Rattle.model.proofs.Lists.{each_push}
+use Rattle.model.proofs.Numbers.{absent, below_next}
 use Rattle.base.specs.Shards.{Shard, IsAt, verdict}
 use Rattle.base.proofs.Fronts as stands
 use Rattle.domain.specs.Messages.{WriteView, DeclinedView, IsDecided}
-use Rattle.domain.specs.Bases.{Domain, IsBelow, IsDomain, IsAnswer, Stops, Declines, refusal_at}
-
--- ---- numbers
-below_of : (next : List ℕ) (s m : ℕ) → slice_index_or next s 0 ≤ m → (a : Author) → IsBelow next a → a.session ≡ s → a.number < m
-below_of next s m low a below is = let same : slice_index_or next a.session 0 ≡ slice_index_or next s 0 = ap (λ x. slice_index_or next x 0) is in omega (arith, below, same, low)
-
--- no author has the number of a call that may come next
-pub absent : (next : List ℕ) (s m : ℕ) (list : List Author) → Each (IsBelow next) list → slice_index_or next s 0 ≤ m → Each (λ (a : Author). a.session ≡ s → a.number < m) list
-absent next s m list each low = Each-weaker (IsBelow next) (λ (a : Author). a.session ≡ s → a.number < m) (below_of next s m low) list each
-
-raised : (next : List ℕ) (s m : ℕ) (a : Author) → s < length next → slice_index_or next s 0 ≤ m → IsBelow next a → (t : Bool) → (a.session == s) ≡ t → IsBelow (slice_set next s (m + 1)) a
-raised next s m a within low below true is =
-    let same : a.session ≡ s = grind (arith, nat_tests) in
-    let e : slice_index_or (slice_set next s (m + 1)) a.session 0 ≡ m + 1 = get_or-set_at next s a.session (m + 1) 0 same within in
-    let f : slice_index_or next a.session 0 ≡ slice_index_or next s 0 = ap (λ x. slice_index_or next x 0) same in
-    rw e (omega (arith, below, f, low))
-raised next s m a within low below false is =
-    let other : ¬ (a.session ≡ s) = λ (e : a.session ≡ s). absurd (grind (arith, nat_tests)) in
-    rw (get_or-set_other next s a.session (m + 1) 0 other) below
-
-pub numbers_next : (next : List ℕ) (s m : ℕ) (list : List Author) → s < length next → slice_index_or next s 0 ≤ m → Each (IsBelow next) list → Each (IsBelow (slice_set next s (m + 1))) (list ++ record { session = s; number = m } ∷ [])
-numbers_next next s m list within low each =
-    let e : slice_index_or (slice_set next s (m + 1)) s 0 ≡ m + 1 = get_or-set_at next s s (m + 1) 0 refl within in
-    each_push (IsBelow (slice_set next s (m + 1))) list (record { session = s; number = m })
-    (Each-weaker (IsBelow next) (IsBelow (slice_set next s (m + 1))) (λ a below. raised next s m a within low below (a.session == s) refl) list each)
-    (omega (arith, e))
+use Rattle.domain.specs.Bases.{Domain, IsDomain, IsAnswer, Stops, Declines, refusal_at}
 
 -- ---- refusals
 -- the shard's refusal is that at the domain's front
@@ -58,10 +29,6 @@ rows_refusal p sh f next e d = stands.refusal_at sh (entries f) e d.at ∙ shard
 pub free_verdict : (u : Unit {0}) (o : Option Refused) → Ok u ≡ verdict o → o ≡ None
 free_verdict u None e = refl
 free_verdict u (Some r) e = absurd cc
-
-pub refused_verdict : (r : Refused) (o : Option Refused) → Err r ≡ verdict o → o ≡ Some r
-refused_verdict r None e = absurd cc
-refused_verdict r (Some q) e = cc
 
 -- ---- a front that has all of its log
 pub decided : (p : Layout) (f g : FrontView) (next : List ℕ) (s m : ℕ) (e : Change) (r : Refused) → g.base ≡ f.base → entries g ≡ entries f → authors g ≡ authors f → g.len ≡ length (log_of g.base g.seen) → Each (IsBelow next) (authors f)
@@ -83,16 +50,12 @@ domain_next p sh new f g next s m e d a at key room within low = record {
   len = ap (λ (x : FrontView). x.len) a.stays ∙ (ap (λ n. n + 1) d.len ∙ (sym (length_push (entries f) e) ∙ ap length (sym a.entries)));
   key = key ∙ (d.key ∙ ap (λ b. (layout_of p b).key) (sym (ap (λ (x : FrontView). x.base) a.stays)));
   room = room ∙ d.room;
-  numbers = subst (λ (list : List Author). Each (IsBelow (slice_set next s (m + 1))) list) (sym a.authors) (numbers_next next s m (authors f) within low d.numbers);
+  numbers = subst (λ (list : List Author). Each (IsBelow (slice_set next s (m + 1))) list) (sym a.authors) (below_next next s m (authors f) within low d.numbers);
 }
   where
     length_push : {X : Type 0} (xs : List X) (x : X) → length (xs ++ x ∷ []) ≡ length xs + 1
     length_push [] x = refl
     length_push (y ∷ xs) x = let rest = length_push xs x in omega (arith, rest)
-
--- shards of one content refuse the same
-pub same_refusal : (a b : Shard) (e f : Change) → a.key ≡ b.key → a.limit ≡ b.limit → a.rows ≡ b.rows → a.length ≡ b.length → e ≡ f → refusal_over a.key a.limit a.rows a.length e ≡ refusal_over b.key b.limit b.rows b.length f
-same_refusal a b e f key most rows len is = cc
 
 -- ---- what was declined, and why
 pub declines_refused : (p : Layout) (old : Domain) (w : WriteView) (d : DeclinedView) (new : Domain) (r : Refused) → refusal_at p old.front w.entry ≡ Some r → IsAnswer w d → ((d.refused ≡ r) × (new ≡ old)) ⊎ Stops old d new → Declines p old w d new

@@ -1,5 +1,5 @@
 -- A base domain: one base shard, the front of its log, and the calls that it has seen.
-use Rattle.std.specs.Prelude.{◌≡◌, ◌⊎◌, ℕ, ◌+◌, ◌<◌, Bool, true, false, List, length, slice_index_or, slice_set, Option, Some, None}
+use Rattle.std.specs.Prelude.{◌≡◌, ◌⊎◌, ℕ, ◌+◌, Bool, true, false, List, length, slice_set, Option, Some, None}
 use Rattle.row.specs.Bags.{Each}
 use Rattle.row.specs.Changes.{Turns}
 use Rattle.row.specs.declared.refused.Refused.{Refused}
@@ -7,7 +7,7 @@ use Rattle.row.specs.declared.refused.Refused.TheVariants.{NoMemory, Stopped}
 use Rattle.plan.specs.Layouts.{Layout}
 use Rattle.model.specs.Logs.{Change, rows_of}
 use Rattle.model.specs.Places.{layout_of}
-use Rattle.model.specs.Histories.{Author}
+use Rattle.model.specs.Histories.{IsBelow}
 use Rattle.model.specs.Legal.{limit}
 use Rattle.book.specs.Fronts.{FrontView, entries, authors, IsAppended, IsMoved}
 use Rattle.model.specs.Refusals.{refusal}
@@ -22,10 +22,6 @@ pub record Domain : Type 0 where
   pub front : FrontView
   pub next : List ℕ
   pub stopped : Bool
-
--- the author's number is below its session's next
-abbrev pub IsBelow : List ℕ → Author → Type 0
-IsBelow next a = a.number < slice_index_or next a.session 0
 
 -- the shard stands at the front, under its table's key and the limit of a log, and the next numbers are above all in it
 pub record IsDomain (p : Layout) (shard : Shard) (f : FrontView) (next : List ℕ) : Type 0 where

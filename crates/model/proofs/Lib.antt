@@ -1,4 +1,5 @@
 pub mod Lists
+pub mod Numbers
 pub mod LogLaws
 pub mod Growth
 pub mod LegalLogs

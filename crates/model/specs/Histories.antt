@@ -1,5 +1,5 @@
 -- Histories: their items, the logs of the base shards, the floors of the sessions.
-use Rattle.std.specs.Prelude.{ℕ, ◌==◌, cond, ◌&&◌, List, [], ◌∷◌, flat_map, slice_index_or}
+use Rattle.std.specs.Prelude.{◌≡◌, ℕ, ◌<◌, ◌==◌, cond, ◌&&◌, List, [], ◌∷◌, flat_map, slice_index_or}
 use Rattle.row.specs.Cells.{Datum, Cells, shard}
 use Rattle.plan.specs.Layouts.{Layout, view_at}
 use Rattle.model.specs.Logs.{Change}
@@ -11,6 +11,10 @@ Lengths = List (List ℕ)
 -- the length of source j at stage shard s (0 where there is none)
 abbrev pub len_at : Lengths → ℕ → ℕ → ℕ
 len_at cut s j = slice_index_or (slice_index_or cut s []) j 0
+
+-- the two cuts have the same lengths
+abbrev pub IsSame : Lengths → Lengths → Type 0
+IsSame c d = (s j : ℕ) → len_at c s j ≡ len_at d s j
 
 -- a cut for each shard of each view
 abbrev pub Floors : Type 0
@@ -45,6 +49,10 @@ log_of b h = flat_map (entry_in b) h
 pub record Author : Type 0 where
   pub session : ℕ
   pub number : ℕ
+
+-- the author's number is below the one that its session's next write may have
+abbrev pub IsBelow : List ℕ → Author → Type 0
+IsBelow next a = a.number < slice_index_or next a.session 0
 
 -- the author that an item adds to it
 abbrev pub author_in : ℕ → Item → List Author

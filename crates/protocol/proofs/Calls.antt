@@ -18,8 +18,8 @@ use Rattle.plan.proofs.Facts.{facts}
 use Rattle.plan.specs.Facts.{IsView}
 use Rattle.model.specs.Places.{base_at, sources}
 use Rattle.model.specs.Queries.{answer}
-use Rattle.model.specs.Histories.{Item, Lengths, len_at, floor_of, floor_in, view_shard}
-use Rattle.protocol.proofs.Wired.{IsSame, with_callers, IsLogOf, IsBase, AreFloors, Edges, entries_at, source_logs, lines_of, IsCaller, IsFloor, IsAck, Good}
+use Rattle.model.specs.Histories.{Item, Lengths, IsSame, len_at, floor_of, floor_in, view_shard}
+use Rattle.protocol.proofs.Wired.{with_callers, IsLogOf, IsBase, AreFloors, Edges, entries_at, source_logs, lines_of, IsCaller, IsFloor, IsAck, Good}
 use Rattle.model.specs.Legal.{AllowsRead, most_sessions}
 use Rattle.model.specs.Refusals.{read_refusal, view_refusal}
 use Rattle.model.proofs.Growth.{legal_more, at_most_self}

@@ -11,9 +11,9 @@ use Rattle.protocol.specs.ViewSteps as on_view
 use Rattle.row.specs.declared.refused.Refused.TheVariants.{Behind}
 use Rattle.model.specs.Places.{sources}
 use Rattle.model.specs.Queries.{Line}
-use Rattle.model.specs.Histories.{Item, Place, Lengths, Floors, len_at, floor_at, floor_of, floor_in, last_or, entry_in, author_in, log_of, authors_of}
+use Rattle.model.specs.Histories.{Item, Place, Lengths, IsSame, Floors, len_at, floor_at, floor_of, floor_in, last_or, entry_in, author_in, log_of, authors_of}
 use Rattle.model.specs.Cuts.{IsAtMost, IsWithin}
-use Rattle.protocol.proofs.Wired.{IsSame, with_callers, IsLogOf, AreFloors, Edges, Led, Three, lines_of, IsCaller, IsFloor, IsAck, AreAcks, Good}
+use Rattle.protocol.proofs.Wired.{with_callers, IsLogOf, AreFloors, Edges, Led, Three, lines_of, IsCaller, IsFloor, IsAck, AreAcks, Good}
 use Rattle.model.specs.Legal.{IsPast, AllowsFence, most_sessions}
 use Rattle.model.proofs.Growth.{legal_more, at_most_self}
 use Rattle.packet.specs.Readers.{readers, is_reader}

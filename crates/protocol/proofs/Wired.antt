@@ -7,7 +7,7 @@ use Rattle.plan.specs.Profile.{IsPlan}
 use Rattle.model.specs.Logs.{Change}
 use Rattle.model.specs.Places.{base_count, sources}
 use Rattle.model.specs.Queries.{Line}
-use Rattle.model.specs.Histories.{Item, Author, Lengths, len_at, log_of, authors_of, floor_of}
+use Rattle.model.specs.Histories.{Item, Author, Lengths, IsSame, log_of, authors_of, floor_of}
 use Rattle.model.specs.Cuts.{IsAtMost}
 use Rattle.model.specs.Legal.{IsLegal, most_sessions}
 use Rattle.packet.specs.Readers.{Reader, readers}
@@ -108,10 +108,6 @@ with_callers w callers = record w { callers = callers }
 pub record IsLogOf (h : List Item) (b : ℕ) (n : Node Base) : Type 0 where
   pub log : log_of b h ≡ n.is.entries
   pub authors : authors_of b h ≡ n.is.authors
-
--- the two cuts have the same lengths
-abbrev pub IsSame : Lengths → Lengths → Type 0
-IsSame c d = (s j : ℕ) → len_at c s j ≡ len_at d s j
 
 -- the floors by reader are those of the history
 abbrev pub AreFloors : Layout → ℕ → List Item → List Lengths → Type 0

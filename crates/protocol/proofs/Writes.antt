@@ -17,7 +17,7 @@ use Rattle.protocol.specs.Events as event
 use Rattle.plan.specs.Profile.{IsPlan}
 use Rattle.model.specs.Logs.{Change, key_of, fits, lawful}
 use Rattle.model.specs.Places.{layout_of, table_of, shard_of, sources}
-use Rattle.model.specs.Histories.{Item, Author, Lengths, last_or, log_of, authors_of}
+use Rattle.model.specs.Histories.{Item, Author, Lengths, IsSame, last_or, log_of, authors_of}
 use Rattle.model.specs.Legal.{limit, AllowsWrite, most_sessions}
 use Rattle.model.specs.Refusals.{refusal, write_refusal, misfit}
 use Rattle.model.proofs.PlaceLaws.{base_range, base_shard, base_layout, placed}
@@ -28,7 +28,7 @@ use Rattle.protocol.specs.Worlds.{Node, World, Caller, Fence}
 use Rattle.protocol.specs.Events.{Event, Reply, accepted, refused}
 use Rattle.protocol.specs.Theorem.{Told, IsWrite, by_call, by_base, by_log, is_numbered, number_in, stops_base, has_stopped}
 use Rattle.protocol.specs.WorldSteps.{Did, base_did, base_for, numbered, verdict_of, written, write_in, write_by}
-use Rattle.protocol.proofs.Wired.{with_callers, IsPast, IsLogOf, IsBase, AreBases, IsNumbered, IsCaller, IsSame, Good}
+use Rattle.protocol.proofs.Wired.{with_callers, IsPast, IsLogOf, IsBase, AreBases, IsNumbered, IsCaller, Good}
 use Rattle.protocol.specs.Edges.{source_place, place_or, reader_place}
 use Rattle.protocol.proofs.Lists.{each_at, each_to, got, set_at, or_of}
 use Rattle.protocol.proofs.Parts.{HasSent, entry_sent, sent_none}

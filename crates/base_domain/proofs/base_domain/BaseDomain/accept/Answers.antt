@@ -2,9 +2,10 @@ use Rattle.std.proofs.Common.{◌∙◌, ◌++◌, ◌∷◌, [], length, length
 use Rattle.model.specs.Entries.{change_of}
 use Rattle.model.specs.Logs.{Change}
 use Rattle.base.specs.Shards.{Shard, IsAt}
+use Rattle.base.proofs.Fronts.{same_refusal}
 use Rattle.packet.specs.Outboxes.{OutboxView}
 use Rattle.packet.proofs.Sends.{same_count, still_clear}
-use Rattle.base_domain.proofs.Accepts.{lawful_at, allows, same_refusal, truth_next, parts_true, parts_count, told_is, accepted_as, done_told, memory_told, edges_told, at_room}
+use Rattle.base_domain.proofs.Accepts.{lawful_at, allows, truth_next, parts_true, parts_count, told_is, accepted_as, done_told, memory_told, edges_told, at_room}
 use Rattle.base_domain.proofs.base_domain.BaseDomain.accept.Goals as goal
 
 pub ready_for-made-requires-clause-lawful : goal.ready_for-made-requires-clause-lawful

@@ -1,11 +1,12 @@
 use Rattle.std.proofs.Common.{◌≡◌, ◌<◌, ◌≤◌, ◌∙◌, OnOk, IfErr, Some, sym, subst, inl, slice_index_or, arith}
 use Rattle.model.specs.Entries.{change_of}
+use Rattle.base.proofs.Fronts.{refused_verdict}
 use Rattle.model.proofs.Lists.{any_end}
 use Rattle.protocol.specs.Bases.{Done, next_of}
 use Rattle.base_domain.specs.Codes.{write_of}
 use Rattle.base_domain.specs.Received.{Fails, Goes, base_at, refusal_at}
 use Rattle.base_domain.proofs.Accepts.{keyed, keyed_shard, next_is, shard_refusal}
-use Rattle.base_domain.proofs.Arms.{step_stale, step_refused, refused_verdict}
+use Rattle.base_domain.proofs.Arms.{step_stale, step_refused}
 use Rattle.base_domain.proofs.Dones.{silent_done}
 use Rattle.base_domain.proofs.Parts.{none_to}
 use Rattle.base_domain.proofs.base_domain.BaseDomain.write.Goals as goal

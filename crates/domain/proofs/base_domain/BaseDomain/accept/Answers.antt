@@ -5,7 +5,9 @@ use Rattle.model.specs.Logs.{Change}
 use Rattle.model.proofs.LegalSamples.{allowed}
 use Rattle.book.specs.Fronts.{entries, authors}
 use Rattle.base.specs.Shards.{Shard, IsAt}
-use Rattle.domain.proofs.Calls.{absent, rows_refusal, same_refusal, domain_next}
+use Rattle.base.proofs.Fronts.{same_refusal}
+use Rattle.model.proofs.Numbers.{absent}
+use Rattle.domain.proofs.Calls.{rows_refusal, domain_next}
 use Rattle.domain.proofs.Packets.{packet_true, sends}
 use Rattle.domain.proofs.base_domain.BaseDomain.accept.Goals as goal
 

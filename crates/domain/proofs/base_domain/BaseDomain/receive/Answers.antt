@@ -2,7 +2,8 @@ use Rattle.std.proofs.Common.{◌≡◌, sym, ◌∙◌, Some, None}
 use Rattle.model.specs.Entries.{change_of}
 use Rattle.book.specs.Fronts.{entries}
 use Rattle.domain.specs.Bases.{refusal_at}
-use Rattle.domain.proofs.Calls.{shard_refusal, refused_verdict, free_verdict, declines_refused, declines_memory, both_err}
+use Rattle.base.proofs.Fronts.{refused_verdict}
+use Rattle.domain.proofs.Calls.{shard_refusal, free_verdict, declines_refused, declines_memory, both_err}
 use Rattle.domain.proofs.base_domain.BaseDomain.receive.Goals as goal
 
 pub refuse-requires-clause-why : goal.refuse-requires-clause-why
