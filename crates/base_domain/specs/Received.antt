@@ -69,6 +69,12 @@ pub record IsRefused {F : Type 0} (m : ToBase) (old : Domain F) (out : OutboxVie
   pub answer : IsAnswered m NoMemory out
   pub reply : verdict_of out.reply ≡ Some (declined NoMemory)
 
+-- it is still that of its base shard and plan, for as many sessions
+pub record Stays {F : Type 0} (log : F → LogView) (old new : Domain F) : Type 0 where
+  pub plan : (log new.front).plan ≡ (log old.front).plan
+  pub base : (log new.front).base ≡ (log old.front).base
+  pub sessions : length new.next ≡ length old.next
+
 module _ {F : Type 0} (log : F → LogView) (authors : F → List Author) where
   -- the base shard that its front tells of
   abbrev pub base_at : Domain F → Base

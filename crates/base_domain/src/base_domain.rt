@@ -4,7 +4,7 @@ ghost use Rattle.model.specs.Entries.{change_of};
 ghost use Rattle.packet.specs.Messages.{none_of};
 ghost use Rattle.packet.specs.Outboxes.{IsClear, packets_on};
 ghost use Rattle.std.specs.List.{range_with_len};
-ghost use Rattle.base_domain.specs.Received.{Fails, Goes, IsAnswered, IsCutShort, IsDone, IsFor, IsWrite, base_at, refusal_at};
+ghost use Rattle.base_domain.specs.Received.{Fails, Goes, IsAnswered, IsCutShort, IsDone, IsFor, IsWrite, Stays, base_at, refusal_at};
 ghost use Rattle.packet.specs.Codes.{mark_of};
 ghost use Rattle.protocol.specs.Bases.{declined, next_of, request, marker};
 ghost use Rattle.model.specs.Places.{layout_of, table_of};
@@ -366,6 +366,7 @@ impl<'p, F: Fronts> BaseDomain<'p, F> {
             (message_of message)) e out.new self.new) }
         ensures memory { IsWrite (message_of message) → result ≡ Err Refused.NoMemory
             → F.may_refuse }
+        ensures place { Stays F.log self.old self.new }
         ensures edges { length out.new.edges ≡ length out.old.edges }
     {
         if self.stopped {

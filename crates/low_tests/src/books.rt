@@ -3,6 +3,7 @@ ghost use Rattle.std.specs.Prelude.{◌≡◌};
 ghost use Rattle.plan.specs.Recipes.{notes_plan};
 ghost use Rattle.book.specs.Rights.{empty_front, IsFresh};
 
+use crate::bases::takes_messages;
 use crate::fronts::{note, takes_one};
 use book::book::{Book, Opened, Rights};
 use book::cut::{Cut, Cuts};
@@ -19,9 +20,10 @@ use std::alloc::{AllocError, Global};
 use std::marker::Brand;
 use std::test::Fail;
 
-const SCENES: [Scene; 6] = [
+const SCENES: [Scene; 7] = [
     Scene::Append,
     Scene::AppendAsFront,
+    Scene::Messages,
     Scene::Write,
     Scene::Answer,
     Scene::Fence,
@@ -33,6 +35,7 @@ const SCENES: [Scene; 6] = [
 enum Scene {
     Append,
     AppendAsFront,
+    Messages,
     Write,
     Answer,
     Fence,
@@ -76,7 +79,8 @@ fn run<J: Naming>(
     }
     match scene {
         Scene::Append | Scene::Write => takes(alloc, &book, &start, logs.remove(0), scene),
-        Scene::AppendAsFront => takes_one::<Front<J>>(alloc, &book, &mut logs.remove(0)),
+        Scene::AppendAsFront => takes_one::<Front<J>>(alloc, &book, &mut logs.remove(0), 1),
+        Scene::Messages => takes_messages::<Front<J>>(alloc, plan, &book, logs.remove(0)),
         Scene::Answer | Scene::Fence => adds(alloc, plan, &book, &start, words.remove(0), scene),
         Scene::Zeros => has_zeros(alloc, plan, &start),
     }
@@ -93,7 +97,7 @@ fn takes<J: Naming>(
     requires notes { J.plan ≡ notes_plan }
     requires log { log ≡ empty_front 0 }
 {
-    let entry = Entry::Insert(note(alloc)?);
+    let entry = Entry::Insert(note(alloc, 7)?);
     let is_taken = if let Scene::Write = scene {
         log.write(book, 0, 0, entry)
             .is_ok_and(|reply| reply.index() == 0)
@@ -164,8 +168,8 @@ fn is_copied(alloc: Global, entry: Entry) -> Result<bool, AllocError> {
 #[test]
 fn entries_are_copied(rt: HostRuntime) -> Result<(), Fail> {
     let alloc = rt.alloc();
-    assert!(rt; is_copied(alloc, Entry::Insert(note(alloc)?))?);
-    assert!(rt; is_copied(alloc, Entry::Update(note(alloc)?))?);
+    assert!(rt; is_copied(alloc, Entry::Insert(note(alloc, 7)?))?);
+    assert!(rt; is_copied(alloc, Entry::Update(note(alloc, 7)?))?);
     assert!(rt; is_copied(alloc, Entry::Delete(Value::Int(1)))?);
     Ok(())
 }
