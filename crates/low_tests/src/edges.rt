@@ -59,20 +59,24 @@ fn an_edge_is_taken(rt: HostRuntime) -> Result<(), Fail> {
     Ok(())
 }
 
-// A line of one front, and a copy of it.
-fn has_lines(alloc: Global) -> Result<bool, AllocError> {
-    let plan = Plan::built_in(alloc)?;
-    let right = ListRight::new(alloc, &plan, 0)?;
+// Whether a line of the front, and a copy of it, have one front with no entry.
+fn has_line<F: Fronts>(alloc: Global, front: F) -> Result<bool, AllocError> {
     let mut fronts = Vec::new(alloc);
-    fronts.push(ListFront::of(&right, alloc)?)?;
-    let line: Line<ListFront> = Line::new(fronts);
+    fronts.push(front)?;
+    let line = Line::new(fronts);
     let copy = line.again(alloc)?;
     let lengths = copy.lengths(alloc)?;
     Ok(copy.sources() == 1 && lengths.len() == 1 && lengths[0] == 0)
 }
 
+fn has_line_of_lists(alloc: Global) -> Result<bool, AllocError> {
+    let plan = Plan::built_in(alloc)?;
+    let right = ListRight::new(alloc, &plan, 0)?;
+    has_line::<ListFront>(alloc, ListFront::of(&right, alloc)?)
+}
+
 #[test]
 fn a_line_is_copied(rt: HostRuntime) -> Result<(), Fail> {
-    assert!(rt; has_lines(rt.alloc())?);
+    assert!(rt; has_line_of_lists(rt.alloc())?);
     Ok(())
 }
