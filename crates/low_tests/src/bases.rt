@@ -123,8 +123,11 @@ impl<'p, F: Fronts> NotesBase<'p, F> {
             }
         }
         self.domain.stop();
-        let late = self.answers(alloc, words, Told::Mark, Wanted::Nothing);
-        Ok(self.domain.is_stopped() && late == Err(Refused::Stopped))
+        match self.answers(alloc, words, Told::Mark, Wanted::Nothing) {
+            Err(Refused::Stopped) => Ok(self.domain.is_stopped()),
+            Err(refused) => Err(refused),
+            Ok(_) => Ok(false),
+        }
     }
 }
 
