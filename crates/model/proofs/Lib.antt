@@ -3,6 +3,7 @@ pub mod Numbers
 pub mod LogLaws
 pub mod Growth
 pub mod LegalLogs
+pub mod RowFits
 pub mod Beginnings
 pub mod Prefixes
 pub mod PlaceLaws

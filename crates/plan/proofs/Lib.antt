@@ -6,3 +6,4 @@ pub mod OutputLaws
 pub mod KeyOutputs
 pub mod Ranges
 pub mod OwnTexts
+pub mod RowCells
