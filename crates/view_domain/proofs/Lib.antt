@@ -1,0 +1,3 @@
+mod GroupSteps
+mod StateSteps
+mod EvictSteps

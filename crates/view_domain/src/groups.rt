@@ -1,0 +1,109 @@
+//! Records in groups, one for each key.
+ghost use Rattle.std.specs.Prelude.{◌≡◌, ◌++◌, ◌∷◌, ◌||◌, [], OnOk, if◌then◌else◌};
+ghost use Rattle.std.specs.List.{IsDistinct};
+ghost use Rattle.std.specs.Map.{keys_of};
+ghost use Rattle.row.specs.Cells.{Datum, datum_of, same};
+ghost use Rattle.row.specs.Groups.{equal};
+ghost use Rattle.packet.specs.Keys.{is_among};
+ghost use Rattle.view_domain.specs.Groups.{records_at, names_of};
+
+use indexmap::IndexMap;
+use indexmap::map::IntoIter;
+use row::record::Record;
+use row::value::Value;
+use std::alloc::{AllocError, Global};
+use std::marker::Model;
+
+/// The records of one key, in order.
+#[derive(Drop)]
+pub struct Group {
+    records: Vec<Record>,
+}
+
+impl Model for Group {
+    ghost use Rattle.std.specs.Prelude.{List};
+    ghost use Rattle.row.specs.declared.record.Record.{Record as Change};
+
+    ghost Value = { List Change };
+
+    ghost view = { λ g. g.records.items };
+}
+
+impl Group {
+    /// No records. Takes no memory yet.
+    pub fn new(alloc: Global) -> Group
+        ensures { result ≡ [] }
+    {
+        Group {
+            records: Vec::new(alloc),
+        }
+    }
+
+    /// Puts a record last. Errors: memory only.
+    pub fn push(&mut self, change: Record) -> Result<(), AllocError>
+        ensures { OnOk result (self.new ≡ self.old ++ change ∷ []) }
+    {
+        self.records.push(change)?;
+        Ok(())
+    }
+
+    /// The records in order. Constant time.
+    pub fn records(&self) -> &Vec<Record>
+        ensures { result.now.items ≡ self.now }
+    {
+        &self.records
+    }
+}
+
+/// Records in groups, one for each key, in the order of the first record of each.
+#[derive(Drop)]
+pub struct Groups {
+    groups: IndexMap<Value, Group>,
+}
+
+impl Model for Groups {
+    ghost use Rattle.view_domain.specs.Groups.{KeyedRecords};
+
+    ghost Value = { KeyedRecords };
+
+    ghost view = { λ g. g.groups.entries };
+}
+
+impl Groups {
+    /// No groups. Takes no memory yet.
+    pub fn new(alloc: Global) -> Groups
+        ensures { result ≡ [] }
+    {
+        Groups {
+            groups: IndexMap::new(alloc),
+        }
+    }
+
+    /// Puts a record last in the group of the key. Errors: memory only. Cost: one look-up by hash;
+    /// the record is moved, and the key where it is the first of its group.
+    pub fn push(&mut self, alloc: Global, key: Value, change: Record) -> Result<(), AllocError>
+        ensures records { OnOk result ((d : Datum) → records_at self.new d
+            ≡ (if same (datum_of key) d then records_at self.old d ++ change ∷ [] else records_at
+            self.old d)) }
+        ensures names { OnOk result ((d : Datum) → is_among (names_of self.new) d
+            ≡ (is_among (names_of self.old) d || same (datum_of key) d)) }
+    {
+        match self.groups.get_mut(&key) {
+            Some(group) => group.push(change),
+            None => {
+                let mut group = Group::new(alloc);
+                group.push(change)?;
+                self.groups.insert(key, group)?;
+                Ok(())
+            }
+        }
+    }
+
+    /// The keys with their groups, moved out of it. Each key is there once.
+    pub fn into_iter(self) -> IntoIter<Value, Group, Global>
+        ensures rest { result ≡ self }
+        ensures distinct { IsDistinct equal (keys_of self) }
+    {
+        self.groups.into_iter()
+    }
+}

@@ -1,0 +1,6 @@
+//! The domain of a view shard, over fronts of any kind.
+#![tactic(auto)]
+
+pub mod groups;
+pub mod keys;
+pub mod shown;
