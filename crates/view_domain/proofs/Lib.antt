@@ -1,3 +1,6 @@
 mod GroupSteps
 mod StateSteps
 mod EvictSteps
+mod BagSteps
+mod ChangeSteps
+mod FillSteps

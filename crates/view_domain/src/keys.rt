@@ -1,19 +1,21 @@
 //! What a view shard does with keys.
-ghost use Rattle.std.specs.Prelude.{◌≡◌, ◌++◌, ◌∷◌, [], List, Option, Some, map, slice_get, slice_set, OnOk};
+ghost use Rattle.std.specs.Prelude.{if◌then◌else◌, is_some, true, false, ◌≡◌, ◌++◌, ◌∷◌, [], List, Option, Some, map, slice_get, slice_set, OnOk};
 ghost use Rattle.std.specs.Map.{lookup};
 ghost use Rattle.row.specs.Bags.{Each};
 ghost use Rattle.row.specs.Cells.{Cells, datum_of};
 ghost use Rattle.row.specs.Changes.{IsCovered};
 ghost use Rattle.row.specs.Groups.{equal};
 ghost use Rattle.row.specs.declared.value.Value.{Value as Key};
-ghost use Rattle.partial.specs.States.{state_of, ChangeFits};
+ghost use Rattle.row.specs.BagChanges.{with_records};
+ghost use Rattle.partial.specs.States.{Kept, order_of, after_change, OthersStay, state_of, ChangeFits};
 ghost use Rattle.partial.specs.Sums.{sum_of_bags};
 ghost use Rattle.partial.specs.Truth.{IsTrueOf};
 ghost use Rattle.packet.specs.Keys.{Ascends, stands_of, open_at, drop_at, give_at};
 ghost use Rattle.protocol.specs.ViewSteps.{drop_all, again, capped, oldest_open};
-ghost use Rattle.view_domain.specs.Shown.{LeadsTo, gone_by, asked_by};
-ghost use Rattle.view_domain.specs.Taken.{evicted_all, changed_by};
+ghost use Rattle.view_domain.specs.Shown.{rows_at, LeadsTo, gone_by, asked_by};
+ghost use Rattle.view_domain.specs.Taken.{FitsAt, evicted_all, changed_by};
 
+use crate::bags::copied;
 use crate::groups::{Group, Groups};
 use crate::shown::KeyChange;
 use partial::partial::{Evicted, Partial};
@@ -87,4 +89,187 @@ pub fn evict_keys(
         evict_key(kept, source, key, told, asks)?;
     }
     Ok(())
+}
+
+/// Tells of a change of a key that is shown.
+fn tell_if(told: &mut Vec<KeyChange>, shown: bool, change: KeyChange) -> Result<(), AllocError>
+    ensures { OnOk result (told.new.items
+        ≡ (if shown then told.old.items ++ change ∷ [] else told.old.items)) }
+{
+    if shown {
+        told.push(change)?;
+    }
+    Ok(())
+}
+
+/// Takes in the records of a key, and says what that changes.
+fn change_key(
+    alloc: Global,
+    kept: &mut Partial<Value, Bag>,
+    source: usize,
+    key: Value,
+    group: Group,
+    told: &mut Vec<KeyChange>,
+) -> Result<(), AllocError>
+    requires { ChangeFits IsCovered source group (state_of equal kept.old key) }
+    ensures sources { kept.new.sources ≡ kept.old.sources }
+    ensures stands { OnOk result (stands_of kept.new ≡ stands_of kept.old) }
+    ensures state { OnOk result (state_of equal kept.new key
+        ≡ after_change with_records source group (state_of equal kept.old key)) }
+    ensures others { OthersStay equal key kept.old kept.new }
+    ensures shown { (first : Key → Option (List Cells)) → LeadsTo first told.old.items kept.old
+        → OnOk result (LeadsTo first told.new.items kept.new) }
+{
+    kept.apply(alloc, &key, source, group.records())?;
+    let shown = kept.get(&key).is_some();
+    tell_if(
+        told,
+        shown,
+        KeyChange::Turns {
+            key,
+            records: group,
+        },
+    )
+}
+
+/// Takes in the records of a source by key: a filled key takes them, of a gather the piece of the
+/// source, where it is here. Says what becomes of filled keys behind what was told. Errors: memory
+/// only; how far it came is then not said. Cost: for each key two look-ups, and for each record
+/// that of `Bag::apply`; no record is copied but the rows that come.
+pub fn change_keys(
+    alloc: Global,
+    kept: &mut Partial<Value, Bag>,
+    source: usize,
+    groups: Groups,
+    told: &mut Vec<KeyChange>,
+) -> Result<(), AllocError>
+    requires { Each (FitsAt source kept.old) groups }
+    ensures sources { kept.new.sources ≡ kept.old.sources }
+    ensures stands { OnOk result (stands_of kept.new ≡ stands_of kept.old) }
+    ensures state { OnOk result ((k : Key) → state_of equal kept.new k
+        ≡ changed_by source (lookup (equal k) groups) (state_of equal kept.old k)) }
+    ensures shown { (first : Key → Option (List Cells)) → LeadsTo first told.old.items kept.old
+        → OnOk result (LeadsTo first told.new.items kept.new) }
+{
+    for (key, records) in groups.into_iter() {
+        change_key(alloc, kept, source, key, records, told)?;
+    }
+    Ok(())
+}
+
+/// Says of a key that has just been filled that it has its rows, of which it tells a copy.
+fn tell_filled(
+    alloc: Global,
+    kept: &Partial<Value, Bag>,
+    key: Value,
+    filled: bool,
+    told: &mut Vec<KeyChange>,
+) -> Result<(), AllocError>
+    ensures { (first : Key → Option (List Cells)) (old : Kept Key (List Cells))
+        → (filled ≡ true → is_some (rows_at kept.now key) ≡ true)
+        → (filled ≡ false → rows_at kept.now key ≡ rows_at old key)
+        → OthersStay equal key old kept.now → LeadsTo first told.old.items old
+        → OnOk result (LeadsTo first told.new.items kept.now) }
+{
+    let rows = match kept.get(&key) {
+        Some(bag) if filled => copied(alloc, bag)?,
+        _ => return Ok(()),
+    };
+    told.push(KeyChange::Fills { key, rows })?;
+    Ok(())
+}
+
+/// Takes in the piece of a source for a key: it is taken where it is missing, and with the last one
+/// the key is filled, behind all that are. Says so behind what was told. Errors: memory only; what
+/// is kept is then not said. Cost: that of `Partial::give_piece`, and a copy of the rows of a key
+/// that is filled by it.
+pub fn fill_key(
+    alloc: Global,
+    kept: &mut Partial<Value, Bag>,
+    source: usize,
+    key: Value,
+    rows: Bag,
+    told: &mut Vec<KeyChange>,
+) -> Result<(), AllocError>
+    ensures sources { kept.new.sources ≡ kept.old.sources }
+    ensures stands { OnOk result (stands_of kept.new
+        ≡ give_at source (datum_of key) (stands_of kept.old)) }
+    ensures truth { (k : Key) (parts : List (List Cells))
+        → (equal key k ≡ true → slice_get parts source ≡ Some rows)
+        → IsTrueOf sum_of_bags parts (state_of equal kept.old k)
+        → OnOk result (IsTrueOf sum_of_bags parts (state_of equal kept.new k)) }
+    ensures shown { (first : Key → Option (List Cells)) → LeadsTo first told.old.items kept.old
+        → OnOk result (LeadsTo first told.new.items kept.new) }
+{
+    let filled = kept.give_piece(alloc, &key, source, rows)?;
+    tell_filled(alloc, kept, key, filled, told)
+}
+
+/// Makes the key a hole that was filled first, and says so; where none is filled nothing changes.
+fn open_oldest(kept: &mut Partial<Value, Bag>, told: &mut Vec<KeyChange>) -> Result<(), AllocError>
+    ensures sources { kept.new.sources ≡ kept.old.sources }
+    ensures stands { stands_of kept.new
+        ≡ oldest_open (stands_of kept.old).order (stands_of kept.old) }
+    ensures truth { (k : Key) (parts : List (List Cells))
+        → IsTrueOf sum_of_bags parts (state_of equal kept.old k)
+        → IsTrueOf sum_of_bags parts (state_of equal kept.new k) }
+    ensures shown { (first : Key → Option (List Cells)) → LeadsTo first told.old.items kept.old
+        → OnOk result (LeadsTo first told.new.items kept.new) }
+{
+    kept.keeps_apart();
+    let Some(key) = kept.evict_oldest() else {
+        return Ok(());
+    };
+    tell_if(told, true, KeyChange::Goes { key })
+}
+
+/// Makes keys holes, one after the other from the one that was filled first, until no more than the
+/// cap are filled. Says which, behind what was told. Errors: memory only; how far it came is then
+/// not said. Constant time for each key that goes.
+pub fn cap_keys(
+    kept: &mut Partial<Value, Bag>,
+    cap: usize,
+    told: &mut Vec<KeyChange>,
+) -> Result<(), AllocError>
+    ensures sources { kept.new.sources ≡ kept.old.sources }
+    ensures stands { OnOk result (stands_of kept.new ≡ capped cap (stands_of kept.old)) }
+    ensures truth { (k : Key) (parts : List (List Cells))
+        → IsTrueOf sum_of_bags parts (state_of equal kept.old k)
+        → OnOk result (IsTrueOf sum_of_bags parts (state_of equal kept.new k)) }
+    ensures shown { (first : Key → Option (List Cells)) → LeadsTo first told.old.items kept.old
+        → OnOk result (LeadsTo first told.new.items kept.new) }
+{
+    for _gone in 0..kept.len().saturating_sub(cap) {
+        open_oldest(kept, told)?;
+    }
+    Ok(())
+}
+
+/// Says what an eviction of the key has done: a filled key goes.
+fn tell_gone(what: Evicted, key: Value, told: &mut Vec<KeyChange>) -> Result<(), AllocError>
+    ensures { OnOk result (told.new.items ≡ told.old.items ++ gone_by what key) }
+{
+    if let Evicted::Entry = what {
+        told.push(KeyChange::Goes { key })?;
+    }
+    Ok(())
+}
+
+/// Makes a filled key a hole, and says so behind what was told; elsewhere nothing changes. Errors:
+/// memory only, after the eviction. Constant time.
+pub fn open_key(
+    kept: &mut Partial<Value, Bag>,
+    key: Value,
+    told: &mut Vec<KeyChange>,
+) -> Result<(), AllocError>
+    ensures sources { kept.new.sources ≡ kept.old.sources }
+    ensures stands { stands_of kept.new ≡ open_at (datum_of key) (stands_of kept.old) }
+    ensures truth { (k : Key) (parts : List (List Cells))
+        → IsTrueOf sum_of_bags parts (state_of equal kept.old k)
+        → IsTrueOf sum_of_bags parts (state_of equal kept.new k) }
+    ensures shown { (first : Key → Option (List Cells)) → LeadsTo first told.old.items kept.old
+        → OnOk result (LeadsTo first told.new.items kept.new) }
+{
+    let what = kept.evict(&key, None);
+    tell_gone(what, key, told)
 }

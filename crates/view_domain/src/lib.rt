@@ -1,6 +1,7 @@
 //! The domain of a view shard, over fronts of any kind.
 #![tactic(auto)]
 
+mod bags;
 pub mod groups;
 pub mod keys;
 pub mod shown;

@@ -1,0 +1,27 @@
+-- Rows that are put into a bag one after the other.
+use Rattle.std.proofs.Common.{◌≡◌, ℕ, ◌+◌, ◌<◌, ◌≤◌, List, [], ◌∷◌, ◌++◌, length, take, get_or, ap, ◌∙◌, arith}
+use Rattle.std.proofs.lemmas.List.{take_more, take_all}
+use Rattle.row.specs.Cells.{Cells, row_cmp}
+use Rattle.row.specs.CellOrder.{row_total, row_same}
+use Rattle.row.specs.Bags.{sorted, inserted, IsAscending}
+use Rattle.row.proofs.BagLemmas.{one_list, IsAscending-sorted, IsAscending-inserted, times-sorted, times-inserted, times-append}
+
+-- a row more
+pub sorted_more : (rows : List Cells) (x : Cells) → inserted row_cmp x (sorted row_cmp rows) ≡ sorted row_cmp (rows ++ x ∷ [])
+sorted_more rows x =
+    one_list row_cmp row_total row_same (inserted row_cmp x (sorted row_cmp rows)) (sorted row_cmp (rows ++ x ∷ [])) (IsAscending-inserted row_cmp row_total x (sorted row_cmp rows) (IsAscending-sorted row_cmp row_total rows)) (IsAscending-sorted row_cmp row_total (rows ++ x ∷ []))
+    (λ z. omega (arith, times-inserted row_cmp z x (sorted row_cmp rows), times-sorted row_cmp z rows, times-sorted row_cmp z (rows ++ x ∷ []), times-append row_cmp z rows (x ∷ [])))
+
+-- rows in order are the bag of them
+pub sorted_same : (rows : List Cells) → IsAscending row_cmp rows → sorted row_cmp rows ≡ rows
+sorted_same rows up = one_list row_cmp row_total row_same (sorted row_cmp rows) rows (IsAscending-sorted row_cmp row_total rows) up (λ z. times-sorted row_cmp z rows)
+
+pub sorted_twice : (rows : List Cells) → sorted row_cmp (sorted row_cmp rows) ≡ sorted row_cmp rows
+sorted_twice rows = sorted_same (sorted row_cmp rows) (IsAscending-sorted row_cmp row_total rows)
+
+pub copied_more : (rows : List Cells) (i : ℕ) (row copy : Cells) (all new : List Cells) → i < length rows → row ≡ get_or rows i row → copy ≡ row → new ≡ inserted row_cmp copy all → all ≡ sorted row_cmp (take i rows)
+    → new ≡ sorted row_cmp (take (i + 1) rows)
+copied_more rows i row copy all new small is c n a = rw (take_more rows i row small, ← is, n, c, a) (sorted_more (take i rows) row)
+
+pub copied_all : (rows same_rows all : List Cells) (i : ℕ) → length rows ≤ i → rows ≡ same_rows → IsAscending row_cmp same_rows → all ≡ sorted row_cmp (take i rows) → all ≡ same_rows
+copied_all rows same_rows all i done e up a = a ∙ (ap (sorted row_cmp) (take_all i rows done) ∙ (ap (sorted row_cmp) e ∙ sorted_same same_rows up))

@@ -1,0 +1,119 @@
+-- The records of keys: one key, and what is left to do.
+use Rattle.std.proofs.Common.{◌≡◌, ℕ, zero, suc, Bool, true, false, cond, ◌++◌, List, [], ◌∷◌, map, Option, Some, None, slice_get, is_some, refl, ap, sym, ◌∙◌, subst, Bor}
+use Rattle.std.specs.Prelude.{⊤}
+use Rattle.std.specs.List.{IsDistinct, AllByRecursion}
+use Rattle.std.specs.Map.{lookup, keys_of}
+use Rattle.std.specs.Option.{option_map, option_copied}
+use Rattle.std.proofs.lemmas.Map.Keys.{IsDistinct-head}
+use Rattle.row.specs.Bags.{Each}
+use Rattle.row.specs.BagChanges.{with_records}
+use Rattle.row.specs.Cells.{Cells, datum_of, same}
+use Rattle.row.specs.Changes.{IsCovered}
+use Rattle.row.specs.Groups.{equal}
+use Rattle.row.specs.declared.record.Record.{Record}
+use Rattle.row.specs.declared.value.Value.{Value}
+use Rattle.row.proofs.Keys.{value_equivalence}
+use Rattle.partial.specs.States.{State, Hole, Waiting, Filled, state_of, entry_of, order_of, after_change, piece_changed, ChangeFits, OthersStay}
+use Rattle.packet.specs.Keys.{stand_of, stands_of}
+use Rattle.packet.proofs.KeptKeys.{keys_stay}
+use Rattle.view_domain.specs.declared.shown.KeyChange.{KeyChange}
+use Rattle.view_domain.specs.declared.shown.KeyChange.TheVariants.{Turns}
+use Rattle.view_domain.specs.Groups.{KeyedRecords}
+use Rattle.view_domain.specs.Shown.{LeadsTo}
+use Rattle.view_domain.specs.Taken.{FitsAt, changed_by}
+use Rattle.view_domain.proofs.StateSteps.{Store, state_same, one_key, leads_push, leads_same}
+
+-- ---- a change that is held in something
+module _ {C D : Type 0} (f : C → D) (plus : List Cells → D → List Cells) where
+  pub after_items : (s : ℕ) (c : C) (st : State (List Cells)) → after_change (λ b x. plus b (f x)) s c st ≡ after_change plus s (f c) st
+  after_items s c Hole = refl
+  after_items s c (Filled e) = refl
+  after_items s c (Waiting pieces) = step (slice_get pieces s)
+    where
+      step : (place : Option (Option (List Cells))) → Waiting (piece_changed (λ b x. plus b (f x)) c s pieces place) ≡ Waiting (piece_changed plus (f c) s pieces place)
+      step None = refl
+      step (Some place) = refl
+
+-- ---- one key
+entry_after : (s : ℕ) (records : List Record) (st : State (List Cells)) → entry_of (after_change with_records s records st) ≡ option_map (λ e. with_records e records) (entry_of st)
+entry_after s records Hole = refl
+entry_after s records (Waiting pieces) = refl
+entry_after s records (Filled e) = refl
+
+none_before : {A B : Type 0} (f : A → B) (o : Option A) → is_some (option_map f o) ≡ false → o ≡ None
+none_before f None h = refl
+none_before f (Some x) h = cc
+
+-- a key takes the records, and where it is filled that is told
+pub leads_changed : (first : Value → Option (List Cells)) (cs told : List KeyChange) (key : Value) (old new : Store) (s : ℕ) (records : List Record) (shown : Bool) → state_of equal new key ≡ after_change with_records s records (state_of equal old key)
+    → OthersStay equal key old new → shown ≡ is_some (entry_of (state_of equal new key)) → told ≡ cond shown (cs ++ Turns key records ∷ []) cs → LeadsTo first cs old → LeadsTo first told new
+leads_changed first cs told key old new s records shown state others test is h = step shown refl
+  where
+    turn : entry_of (state_of equal new key) ≡ option_map (λ e. with_records e records) (entry_of (state_of equal old key))
+    turn = ap entry_of state ∙ entry_after s records (state_of equal old key)
+
+    step : (b : Bool) → shown ≡ b → LeadsTo first told new
+    step true e = rw (is, e) (leads_push old new (Turns key records) others first cs turn h)
+    step false e =
+        let gone : entry_of (state_of equal old key) ≡ None = none_before (λ e. with_records e records) (entry_of (state_of equal old key)) (ap is_some (sym turn) ∙ (sym test ∙ e)) in
+        rw (is, e) (leads_same old new key others first cs (turn ∙ (ap (option_map (λ e. with_records e records)) gone ∙ sym gone)) h)
+
+pub copied_some : {X : Type 0} (o : Option (Bor X)) → is_some o ≡ is_some (option_copied o)
+copied_some None = refl
+copied_some (Some x) = refl
+
+-- ---- the keys that are left
+absent : {X : Type 0} (key : Value) (es : List (Value × X)) → AllByRecursion (λ y. equal key y ≡ false) (keys_of es) → lookup (equal key) es ≡ None
+absent key [] h = refl
+absent key (e ∷ es) h = rw h.0 (absent key es h.1)
+
+lookup_same : {X : Type 0} (key k : Value) (xs : List (Value × X)) → equal key k ≡ true → lookup (equal k) xs ≡ lookup (equal key) xs
+lookup_same key k [] h = refl
+lookup_same key k (x ∷ xs) h = rw (value_equivalence.congr key k x.0 h) (ap (cond (equal k x.0) (Some x.1)) (lookup_same key k xs h))
+
+module _ (source : ℕ) (mid new : Store) (key : Value) (records : List Record) (rest : KeyedRecords) (distinct : IsDistinct equal (keys_of ((key, records) ∷ rest))) (others : OthersStay equal key mid new) where
+  each_other : (es : KeyedRecords) → AllByRecursion (λ y. equal key y ≡ false) (keys_of es) → Each (FitsAt source mid) es → Each (FitsAt source new) es
+  each_other [] a h = tt
+  each_other (e ∷ es) a h = (subst (ChangeFits IsCovered source e.1) (sym (others e.0 a.0)) h.0, each_other es a.1 h.1)
+
+  pub rest_fits : Each (FitsAt source mid) rest → Each (FitsAt source new) rest
+  rest_fits h = each_other rest (IsDistinct-head equal key (keys_of rest) distinct) h
+
+  pub rest_changed : state_of equal new key ≡ after_change with_records source records (state_of equal mid key)
+      → (k : Value) → changed_by source (lookup (equal k) ((key, records) ∷ rest)) (state_of equal mid k) ≡ changed_by source (lookup (equal k) rest) (state_of equal new k)
+  rest_changed applied k = step (equal k key) refl
+    where
+      step : (b : Bool) → equal k key ≡ b → changed_by source (cond b (Some records) (lookup (equal k) rest)) (state_of equal mid k) ≡ changed_by source (lookup (equal k) rest) (state_of equal new k)
+      step true e =
+          let back = sym (value_equivalence.symm k key) ∙ e in
+          let gone : lookup (equal k) rest ≡ None = lookup_same key k rest back ∙ absent key rest (IsDistinct-head equal key (keys_of rest) distinct) in
+          rw gone (ap (after_change with_records source records) (sym (state_same mid key k back)) ∙ (sym applied ∙ state_same new key k back))
+      step false e = ap (changed_by source (lookup (equal k) rest)) (sym (others k (sym (value_equivalence.symm k key) ∙ e)))
+
+-- keys stand as they did
+abbrev blank : List (Option (List Cells)) → List (Option ⊤)
+blank pieces = map (option_map (λ p. tt)) pieces
+
+blank_changed : (records : List Record) (pieces : List (Option (List Cells))) (s : ℕ) → blank (piece_changed with_records records s pieces (slice_get pieces s)) ≡ blank pieces
+blank_changed records [] s = refl
+blank_changed records (None ∷ ps) zero = refl
+blank_changed records (Some p ∷ ps) zero = refl
+blank_changed records (o ∷ ps) (suc s) = step (slice_get ps s) (blank_changed records ps s)
+  where
+    step : (place : Option (Option (List Cells))) → blank (piece_changed with_records records s ps place) ≡ blank ps → blank (piece_changed with_records records (suc s) (o ∷ ps) place) ≡ blank (o ∷ ps)
+    step None h = refl
+    step (Some place) h = ap (λ bs. option_map (λ p. tt) o ∷ bs) h
+
+stays_by : (s : ℕ) (o : Option (List Record)) (st : State (List Cells)) → stand_of (changed_by s o st) ≡ stand_of st
+stays_by s None st = refl
+stays_by s (Some records) Hole = refl
+stays_by s (Some records) (Filled e) = refl
+stays_by s (Some records) (Waiting pieces) = ap Waiting (blank_changed records pieces s)
+
+pub changed_stands : (s : ℕ) (key : Value) (records : List Record) (old new : Store) → state_of equal new key ≡ after_change with_records s records (state_of equal old key) → OthersStay equal key old new → order_of new ≡ order_of old
+    → stands_of new ≡ stands_of old
+changed_stands s key records old new state others order = keys_stay old new (λ k. ap stand_of (one_key old new key others (after_change with_records s records) state k) ∙ step (state_of equal old k) (same (datum_of key) (datum_of k))) order
+  where
+    step : (st : State (List Cells)) (b : Bool) → stand_of (cond b (after_change with_records s records st) st) ≡ stand_of st
+    step st true = stays_by s (Some records) st
+    step st false = refl
