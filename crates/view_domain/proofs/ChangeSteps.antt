@@ -1,26 +1,28 @@
 -- The records of keys: one key, and what is left to do.
-use Rattle.std.proofs.Common.{◌≡◌, ℕ, zero, suc, Bool, true, false, cond, ◌++◌, List, [], ◌∷◌, map, Option, Some, None, slice_get, is_some, refl, ap, sym, ◌∙◌, subst, Bor}
+use Rattle.std.proofs.Common.{◌≡◌, ℕ, zero, suc, Bool, true, false, cond, ◌||◌, ◌++◌, List, [], ◌∷◌, map, Option, Some, None, slice_get, is_some, refl, ap, sym, ◌∙◌, subst, true≢false, Bor}
 use Rattle.std.specs.Prelude.{⊤}
 use Rattle.std.specs.List.{IsDistinct, AllByRecursion}
 use Rattle.std.specs.Map.{lookup, keys_of}
 use Rattle.std.specs.Option.{option_map, option_copied}
-use Rattle.std.proofs.lemmas.Map.Keys.{IsDistinct-head}
+use Rattle.std.proofs.lemmas.Map.Keys.{IsDistinct-head, IsDistinct-tail}
 use Rattle.row.specs.Bags.{Each}
 use Rattle.row.specs.BagChanges.{with_records}
-use Rattle.row.specs.Cells.{Cells, datum_of, same}
+use Rattle.row.specs.Cells.{Datum, Cells, datum_of, same}
 use Rattle.row.specs.Changes.{IsCovered}
 use Rattle.row.specs.Groups.{equal}
 use Rattle.row.specs.declared.record.Record.{Record}
 use Rattle.row.specs.declared.value.Value.{Value}
-use Rattle.row.proofs.Keys.{value_equivalence}
+use Rattle.row.proofs.Cellwise.{eq-value_is}
+use Rattle.row.proofs.Keys.{value_equivalence, same_flip}
+use Rattle.row.proofs.Shards.{same_is, same_self}
 use Rattle.partial.specs.States.{State, Hole, Waiting, Filled, state_of, entry_of, order_of, after_change, piece_changed, ChangeFits, OthersStay}
-use Rattle.packet.specs.Keys.{stand_of, stands_of}
+use Rattle.packet.specs.Keys.{stand_of, stands_of, is_among}
 use Rattle.packet.proofs.KeptKeys.{keys_stay}
 use Rattle.view_domain.specs.declared.shown.KeyChange.{KeyChange}
 use Rattle.view_domain.specs.declared.shown.KeyChange.TheVariants.{Turns}
-use Rattle.view_domain.specs.Groups.{KeyedRecords}
+use Rattle.view_domain.specs.Groups.{KeyedRecords, or_empty, records_at, names_of}
 use Rattle.view_domain.specs.Shown.{LeadsTo}
-use Rattle.view_domain.specs.Taken.{FitsAt, changed_by}
+use Rattle.view_domain.specs.Taken.{changed_by}
 use Rattle.view_domain.proofs.StateSteps.{Store, state_same, one_key, leads_push, leads_same}
 
 -- ---- a change that is held in something
@@ -63,6 +65,36 @@ copied_some None = refl
 copied_some (Some x) = refl
 
 -- ---- the keys that are left
+-- the records of a group can be taken in at its key
+abbrev pub FitsAt : ℕ → Store → Value × List Record → Type 0
+FitsAt s kept g = ChangeFits IsCovered s g.1 (state_of equal kept g.0)
+
+named_apart : (key : Value) (es : KeyedRecords) (d : Datum) → AllByRecursion (λ y. equal key y ≡ false) (keys_of es) → is_among (names_of es) d ≡ true → same (datum_of key) d ≡ false
+named_apart key [] d a h = absurd (true≢false (sym h))
+named_apart key (e ∷ es) d a h = step (same (datum_of e.0) d) refl h (named_apart key es d a.1)
+  where
+    step : (b : Bool) → same (datum_of e.0) d ≡ b → (b || is_among (names_of es) d) ≡ true → (is_among (names_of es) d ≡ true → same (datum_of key) d ≡ false) → same (datum_of key) d ≡ false
+    step true q n rest = subst (λ x. same (datum_of key) x ≡ false) (same_is (datum_of e.0) d q) (sym (eq-value_is key e.0) ∙ a.0)
+    step false q n rest = rest n
+
+fits_at : (s : ℕ) (kept : Store) (groups : KeyedRecords) → IsDistinct equal (keys_of groups)
+    → ((k : Value) → is_among (names_of groups) (datum_of k) ≡ true → ChangeFits IsCovered s (records_at groups (datum_of k)) (state_of equal kept k)) → Each (FitsAt s kept) groups
+fits_at s kept [] distinct h = tt
+fits_at s kept (e ∷ es) distinct h =
+    let self = same_self (datum_of e.0) in (
+      subst (λ b. ChangeFits IsCovered s (or_empty (cond b (Some e.1) (lookup (λ y. same (datum_of e.0) (datum_of y)) es))) (state_of equal kept e.0)) self (h e.0 (ap (λ b. b || is_among (names_of es) (datum_of e.0)) self)),
+      fits_at s kept es (IsDistinct-tail equal e.0 (keys_of es) distinct) (λ k n. later k n (named_apart e.0 es (datum_of k) (IsDistinct-head equal e.0 (keys_of es) distinct) n)),
+    )
+  where
+    later : (k : Value) → is_among (names_of es) (datum_of k) ≡ true → same (datum_of e.0) (datum_of k) ≡ false → ChangeFits IsCovered s (records_at es (datum_of k)) (state_of equal kept k)
+    later k n apart =
+        subst (λ b. ChangeFits IsCovered s (or_empty (cond b (Some e.1) (lookup (λ y. same (datum_of k) (datum_of y)) es))) (state_of equal kept k)) (same_flip (datum_of k) (datum_of e.0) ∙ apart)
+        (h k (ap (λ b. b || is_among (names_of es) (datum_of k)) apart ∙ n))
+
+pub all_fit : (s : ℕ) (kept : Store) (groups items : KeyedRecords) → groups ≡ items → IsDistinct equal (keys_of groups)
+    → ((k : Value) → is_among (names_of groups) (datum_of k) ≡ true → ChangeFits IsCovered s (records_at groups (datum_of k)) (state_of equal kept k)) → Each (FitsAt s kept) items
+all_fit s kept groups items e distinct h = subst (Each (FitsAt s kept)) e (fits_at s kept groups distinct h)
+
 absent : {X : Type 0} (key : Value) (es : List (Value × X)) → AllByRecursion (λ y. equal key y ≡ false) (keys_of es) → lookup (equal key) es ≡ None
 absent key [] h = refl
 absent key (e ∷ es) h = rw h.0 (absent key es h.1)

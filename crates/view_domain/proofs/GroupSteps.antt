@@ -1,5 +1,5 @@
 -- A group with one record more, and a new one.
-use Rattle.std.proofs.Common.{◌≡◌, Bool, true, false, cond, ◌||◌, List, [], ◌∷◌, ◌++◌, Some, None, map, refl, ap, sym, ◌∙◌}
+use Rattle.std.proofs.Common.{◌≡◌, Bool, true, false, cond, ◌||◌, List, [], ◌∷◌, ◌++◌, Some, None, map, filter, refl, ap, sym, ◌∙◌}
 use Rattle.std.specs.Map.{lookup, set_value}
 use Rattle.row.specs.Cells.{Datum, datum_of, same}
 use Rattle.row.specs.Groups.{equal}
@@ -11,7 +11,9 @@ use Rattle.row.proofs.Shards.{same_is}
 use Rattle.indexmap.specs.IndexMap.{IndexMap, insert_entry}
 use Rattle.indexmap.proofs.CallerLemmas.{insert_entry-new}
 use Rattle.packet.specs.Keys.{is_among}
-use Rattle.view_domain.specs.Groups.{KeyedRecords, or_empty, records_at, names_of}
+use Rattle.packet.specs.Messages.{KeyedRecord}
+use Rattle.packet.specs.Truth.{changes_at}
+use Rattle.view_domain.specs.Groups.{KeyedRecords, or_empty, records_at, names_of, named_in}
 
 pub by_datum : {X : Type 0} (key : Value) (xs : List (Value × X)) → lookup (equal key) xs ≡ lookup (λ y. same (datum_of key) (datum_of y)) xs
 by_datum key xs = λ i. lookup (λ y. eq-value_is key y i) xs
@@ -114,3 +116,35 @@ module _ (old new : KeyedRecords) (key : Value) (item : Record) where
   pub new_names : {S : Type 0} (map : IndexMap Value (List Record) S) (h : List Record) → map.entries ≡ old → lookup (equal key) old ≡ None → h ≡ item ∷ [] → new ≡ insert_entry equal map.entries key h
       → (d : Datum) → is_among (names_of new) d ≡ (is_among (names_of old) d || same (datum_of key) d)
   new_names map h was none one n d = rw (new_is map h was none one n) (name_new old key (item ∷ []) d)
+
+-- ---- along the changes
+changes_more : (d : Datum) (done : List KeyedRecord) (c : KeyedRecord) → changes_at d (done ++ c ∷ []) ≡ cond (same c.key d) (changes_at d done ++ c.change ∷ []) (changes_at d done)
+changes_more d [] c = step (same c.key d)
+  where
+    step : (b : Bool) → map (λ (x : KeyedRecord). x.change) (cond b (c ∷ []) []) ≡ cond b (c.change ∷ []) []
+    step true = refl
+    step false = refl
+changes_more d (x ∷ xs) c = step (same x.key d) (same c.key d) (changes_more d xs c)
+  where
+    step : (a b : Bool) → changes_at d (xs ++ c ∷ []) ≡ cond b (changes_at d xs ++ c.change ∷ []) (changes_at d xs)
+        → map (λ (x : KeyedRecord). x.change) (cond a (x ∷ filter (λ (c : KeyedRecord). same c.key d) (xs ++ c ∷ [])) (filter (λ (c : KeyedRecord). same c.key d) (xs ++ c ∷ [])))
+        ≡ cond b (map (λ (x : KeyedRecord). x.change) (cond a (x ∷ filter (λ (c : KeyedRecord). same c.key d) xs) (filter (λ (c : KeyedRecord). same c.key d) xs)) ++ c.change ∷ []) (map (λ (x : KeyedRecord). x.change) (cond a (x ∷ filter (λ (c : KeyedRecord). same c.key d) xs) (filter (λ (c : KeyedRecord). same c.key d) xs)))
+    step true true h = ap (λ rs. x.change ∷ rs) h
+    step true false h = ap (λ rs. x.change ∷ rs) h
+    step false true h = h
+    step false false h = h
+
+named_more : (d : Datum) (done : List KeyedRecord) (c : KeyedRecord) → is_among (named_in (done ++ c ∷ [])) d ≡ (is_among (named_in done) d || same c.key d)
+named_more d [] c = or_none (same c.key d)
+named_more d (x ∷ xs) c = step (same x.key d) (named_more d xs c)
+  where
+    step : (b : Bool) → is_among (named_in (xs ++ c ∷ [])) d ≡ (is_among (named_in xs) d || same c.key d) → (b || is_among (named_in (xs ++ c ∷ [])) d) ≡ ((b || is_among (named_in xs) d) || same c.key d)
+    step true h = refl
+    step false h = h
+
+module _ (old new : KeyedRecords) (done : List KeyedRecord) (c : KeyedRecord) (key : Value) (change : Record) (is_key : datum_of key ≡ c.key) (is_change : change ≡ c.change) where
+  pub records_next : ((d : Datum) → records_at new d ≡ cond (same (datum_of key) d) (records_at old d ++ change ∷ []) (records_at old d)) → ((d : Datum) → records_at old d ≡ changes_at d done) → (d : Datum) → records_at new d ≡ changes_at d (done ++ c ∷ [])
+  records_next push h d = push d ∙ rw (is_key, is_change, h d) (sym (changes_more d done c))
+
+  pub names_next : ((d : Datum) → is_among (names_of new) d ≡ (is_among (names_of old) d || same (datum_of key) d)) → ((d : Datum) → is_among (names_of old) d ≡ is_among (named_in done) d) → (d : Datum) → is_among (names_of new) d ≡ is_among (named_in (done ++ c ∷ [])) d
+  names_next push h d = push d ∙ rw (is_key, h d) (sym (named_more d done c))

@@ -4,3 +4,4 @@ mod EvictSteps
 mod BagSteps
 mod ChangeSteps
 mod FillSteps
+mod TakeSteps

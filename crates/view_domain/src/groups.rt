@@ -1,14 +1,16 @@
 //! Records in groups, one for each key.
-ghost use Rattle.std.specs.Prelude.{◌≡◌, ◌++◌, ◌∷◌, ◌||◌, [], OnOk, if◌then◌else◌};
+ghost use Rattle.std.specs.Prelude.{◌≡◌, ◌++◌, ◌∷◌, ◌||◌, [], IfOk, OnOk, if◌then◌else◌};
 ghost use Rattle.std.specs.List.{IsDistinct};
 ghost use Rattle.std.specs.Map.{keys_of};
 ghost use Rattle.row.specs.Cells.{Datum, datum_of, same};
 ghost use Rattle.row.specs.Groups.{equal};
 ghost use Rattle.packet.specs.Keys.{is_among};
-ghost use Rattle.view_domain.specs.Groups.{records_at, names_of};
+ghost use Rattle.packet.specs.Truth.{changes_at};
+ghost use Rattle.view_domain.specs.Groups.{records_at, names_of, named_in};
 
 use indexmap::IndexMap;
 use indexmap::map::IntoIter;
+use packet::keyed::Keyed;
 use row::record::Record;
 use row::value::Value;
 use std::alloc::{AllocError, Global};
@@ -106,4 +108,19 @@ impl Groups {
     {
         self.groups.into_iter()
     }
+}
+
+/// The records of packets' changes in groups, one for each key. Errors: memory only. Cost: one
+/// look-up by hash for each; each record is moved once, and none is copied.
+pub fn grouped(alloc: Global, changes: Vec<Keyed>) -> Result<Groups, AllocError>
+    ensures records { IfOk result (λ g. (d : Datum) → records_at g d ≡ changes_at d changes.items) }
+    ensures names { IfOk result (λ g. (d : Datum) → is_among (names_of g) d
+        ≡ is_among (named_in changes.items) d) }
+{
+    let mut groups = Groups::new(alloc);
+    for keyed in changes {
+        let (key, change) = keyed.into_parts();
+        groups.push(alloc, key, change)?;
+    }
+    Ok(groups)
 }

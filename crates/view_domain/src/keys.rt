@@ -1,7 +1,6 @@
 //! What a view shard does with keys.
 ghost use Rattle.std.specs.Prelude.{if◌then◌else◌, is_some, true, false, ◌≡◌, ◌++◌, ◌∷◌, [], List, Option, Some, map, slice_get, slice_set, OnOk};
 ghost use Rattle.std.specs.Map.{lookup};
-ghost use Rattle.row.specs.Bags.{Each};
 ghost use Rattle.row.specs.Cells.{Cells, datum_of};
 ghost use Rattle.row.specs.Changes.{IsCovered};
 ghost use Rattle.row.specs.Groups.{equal};
@@ -10,10 +9,11 @@ ghost use Rattle.row.specs.BagChanges.{with_records};
 ghost use Rattle.partial.specs.States.{Kept, order_of, after_change, OthersStay, state_of, ChangeFits};
 ghost use Rattle.partial.specs.Sums.{sum_of_bags};
 ghost use Rattle.partial.specs.Truth.{IsTrueOf};
-ghost use Rattle.packet.specs.Keys.{Ascends, stands_of, open_at, drop_at, give_at};
+ghost use Rattle.packet.specs.Keys.{Ascends, is_among, stands_of, open_at, drop_at, give_at};
 ghost use Rattle.protocol.specs.ViewSteps.{drop_all, again, capped, oldest_open};
+ghost use Rattle.view_domain.specs.Groups.{names_of, records_at};
 ghost use Rattle.view_domain.specs.Shown.{rows_at, LeadsTo, gone_by, asked_by};
-ghost use Rattle.view_domain.specs.Taken.{FitsAt, evicted_all, changed_by};
+ghost use Rattle.view_domain.specs.Taken.{evicted_all, changed_by};
 
 use crate::bags::copied;
 use crate::groups::{Group, Groups};
@@ -143,7 +143,8 @@ pub fn change_keys(
     groups: Groups,
     told: &mut Vec<KeyChange>,
 ) -> Result<(), AllocError>
-    requires { Each (FitsAt source kept.old) groups }
+    requires { (k : Key) → is_among (names_of groups) (datum_of k) ≡ true → ChangeFits IsCovered
+        source (records_at groups (datum_of k)) (state_of equal kept.old k) }
     ensures sources { kept.new.sources ≡ kept.old.sources }
     ensures stands { OnOk result (stands_of kept.new ≡ stands_of kept.old) }
     ensures state { OnOk result ((k : Key) → state_of equal kept.new k

@@ -5,3 +5,4 @@ mod bags;
 pub mod groups;
 pub mod keys;
 pub mod shown;
+mod takes;

@@ -5,8 +5,8 @@ use Rattle.std.proofs.lemmas.Map.Keys.{IsDistinct-tail}
 use Rattle.row.specs.Bags.{Each}
 use Rattle.row.specs.Groups.{equal}
 use Rattle.partial.specs.States.{state_of}
-use Rattle.view_domain.specs.Taken.{FitsAt, changed_by}
-use Rattle.view_domain.proofs.ChangeSteps.{rest_fits, rest_changed}
+use Rattle.view_domain.specs.Taken.{changed_by}
+use Rattle.view_domain.proofs.ChangeSteps.{FitsAt, all_fit, rest_fits, rest_changed}
 use Rattle.view_domain.proofs.keys.change_keys.Goals as goal
 
 pub loop-key-init : goal.loop-key-init
@@ -14,7 +14,7 @@ loop-key-init c =
     let e : c.args.groups ≡ c.into_iter-key-iterator.result = sym (c.into_iter-key-iterator.ensures.into_iter_gives ∙ c.into_iter-key-items.ensures.rest) in
     record {
       distinct = subst (λ g. IsDistinct equal (keys_of g)) e c.into_iter-key-items.ensures.distinct;
-      fits = subst (Each (FitsAt c.args.source c.args.kept.now)) e c.requires;
+      fits = all_fit c.args.source c.args.kept.now c.args.groups _ e c.into_iter-key-items.ensures.distinct c.requires;
       sources = refl;
       stands = refl;
       state = λ k. ap (λ g. changed_by c.args.source (lookup (equal k) g) (state_of equal c.args.kept.now k)) e;

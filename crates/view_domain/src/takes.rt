@@ -1,0 +1,138 @@
+//! What a view shard does with what a packet of a stage shard carries.
+ghost use Rattle.std.specs.Prelude.{◌≡◌, [], List, Some, None, map, length, slice_get, slice_set, true, false, IfOk, OnOk, IfSome, Option};
+ghost use Rattle.row.specs.Bags.{Each, sorted};
+ghost use Rattle.row.specs.Cells.{Cells, datum_of, row_cmp};
+ghost use Rattle.row.specs.Changes.{IsCovered};
+ghost use Rattle.row.specs.Groups.{equal};
+ghost use Rattle.row.specs.declared.value.Value.{Value as Key};
+ghost use Rattle.partial.specs.States.{state_of, ChangeFits};
+ghost use Rattle.partial.specs.Sums.{sum_of_bags};
+ghost use Rattle.partial.specs.Truth.{IsTrueOf};
+ghost use Rattle.packet.specs.Keys.{Ascends, is_among, stands_of};
+ghost use Rattle.packet.specs.Messages.{KeyedRecord};
+ghost use Rattle.packet.specs.Truth.{changes_at, key_of_piece};
+ghost use Rattle.protocol.specs.ViewSteps.{again, capped, drop_all, give_piece};
+ghost use Rattle.view_domain.specs.Groups.{named_in};
+ghost use Rattle.view_domain.specs.Shown.{LeadsTo, rows_at};
+ghost use Rattle.view_domain.specs.Taken.{IsStepOf, IsPieceFor};
+
+use crate::bags::bag_of;
+use crate::groups::grouped;
+use crate::keys::{cap_keys, change_keys, evict_keys, fill_key};
+use crate::shown::KeyChange;
+use packet::keyed::Keyed;
+use packet::piece::Piece;
+use partial::partial::Partial;
+use row::bag::Bag;
+use row::value::Value;
+use std::alloc::{AllocError, Global};
+
+/// What a packet has done to keys: what becomes of those that are shown, and those whose piece is
+/// to be asked for again.
+#[derive(Drop)]
+pub(crate) struct Taken {
+    pub(crate) told: Vec<KeyChange>,
+    pub(crate) asks: Vec<Value>,
+}
+
+/// Takes in the keys that a source evicts, and then its records, which change nothing at those. No
+/// record is of a key that is evicted.
+fn take_changes(
+    alloc: Global,
+    kept: &mut Partial<Value, Bag>,
+    source: usize,
+    changes: Vec<Keyed>,
+    evicts: Vec<Value>,
+) -> Result<Taken, AllocError>
+    requires up { Ascends (map datum_of evicts.items) }
+    requires apart { Each (λ (c : KeyedRecord). is_among (map datum_of evicts.items) c.key
+        ≡ false) changes.items }
+    requires fits { (k : Key) → is_among (named_in changes.items) (datum_of k) ≡ true
+        → ChangeFits IsCovered source (changes_at (datum_of k) changes.items)
+        (state_of equal kept.old k) }
+    ensures sources { kept.new.sources ≡ kept.old.sources }
+    ensures stands { OnOk result (stands_of kept.new
+        ≡ drop_all source (map datum_of evicts.items) (stands_of kept.old)) }
+    ensures truth { (k : Key) (parts : List (List Cells)) (part next : List Cells)
+        → slice_get parts source ≡ Some part
+        → (is_among (map datum_of evicts.items) (datum_of k) ≡ false
+        → IsStepOf part (changes_at (datum_of k) changes.items) next)
+        → IsTrueOf sum_of_bags parts (state_of equal kept.old k)
+        → OnOk result (IsTrueOf sum_of_bags (slice_set parts source next)
+        (state_of equal kept.new k)) }
+    ensures shown { IfOk result (λ t. LeadsTo (rows_at kept.old) t.told.items kept.new) }
+    ensures asks { IfOk result (λ t. map datum_of t.asks.items
+        ≡ again source (map datum_of evicts.items) (stands_of kept.old)) }
+{
+    let mut told = Vec::new(alloc);
+    let mut asks = Vec::new(alloc);
+    evict_keys(kept, source, evicts, &mut told, &mut asks)?;
+    let groups = grouped(alloc, changes)?;
+    change_keys(alloc, kept, source, groups, &mut told)?;
+    Ok(Taken { told, asks })
+}
+
+/// Takes in the piece of a source, if there is one.
+fn take_piece(
+    alloc: Global,
+    kept: &mut Partial<Value, Bag>,
+    source: usize,
+    piece: Option<Piece>,
+    told: &mut Vec<KeyChange>,
+) -> Result<(), AllocError>
+    ensures sources { kept.new.sources ≡ kept.old.sources }
+    ensures stands { OnOk result (stands_of kept.new
+        ≡ give_piece source (key_of_piece piece) (stands_of kept.old)) }
+    ensures truth { (k : Key) (parts : List (List Cells)) → IsPieceFor piece k parts source
+        → IsTrueOf sum_of_bags parts (state_of equal kept.old k)
+        → OnOk result (IsTrueOf sum_of_bags parts (state_of equal kept.new k)) }
+    ensures shown { (first : Key → Option (List Cells)) → LeadsTo first told.old.items kept.old
+        → OnOk result (LeadsTo first told.new.items kept.new) }
+{
+    let Some(piece) = piece else {
+        return Ok(());
+    };
+    let (key, rows) = piece.into_parts();
+    let rows = bag_of(alloc, rows)?;
+    fill_key(alloc, kept, source, key, rows, told)
+}
+
+/// Takes in what a packet of a source carries: the keys that it evicts, its records, its piece, and
+/// then the cap is kept. What is true of the sources' parts before it is true of those after it.
+/// Errors: memory only; what is then kept is not said.
+pub(crate) fn take_in(
+    alloc: Global,
+    kept: &mut Partial<Value, Bag>,
+    source: usize,
+    cap: usize,
+    changes: Vec<Keyed>,
+    evicts: Vec<Value>,
+    piece: Option<Piece>,
+) -> Result<Taken, AllocError>
+    requires up { Ascends (map datum_of evicts.items) }
+    requires apart { Each (λ (c : KeyedRecord). is_among (map datum_of evicts.items) c.key
+        ≡ false) changes.items }
+    requires fits { (k : Key) → is_among (named_in changes.items) (datum_of k) ≡ true
+        → ChangeFits IsCovered source (changes_at (datum_of k) changes.items)
+        (state_of equal kept.old k) }
+    ensures sources { kept.new.sources ≡ kept.old.sources }
+    ensures stands { OnOk result (stands_of kept.new
+        ≡ capped cap (give_piece source (key_of_piece piece)
+        (drop_all source (map datum_of evicts.items) (stands_of kept.old)))) }
+    ensures truth { (k : Key) (parts : List (List Cells)) (part next : List Cells)
+        → slice_get parts source ≡ Some part
+        → (is_among (map datum_of evicts.items) (datum_of k) ≡ false
+        → IsStepOf part (changes_at (datum_of k) changes.items) next)
+        → IsPieceFor piece k (slice_set parts source next) source
+        → IsTrueOf sum_of_bags parts (state_of equal kept.old k)
+        → OnOk result (IsTrueOf sum_of_bags (slice_set parts source next)
+        (state_of equal kept.new k)) }
+    ensures shown { IfOk result (λ t. LeadsTo (rows_at kept.old) t.told.items kept.new) }
+    ensures asks { IfOk result (λ t. map datum_of t.asks.items
+        ≡ again source (map datum_of evicts.items) (stands_of kept.old)) }
+{
+    let mut taken = take_changes(alloc, kept, source, changes, evicts)?;
+    take_piece(alloc, kept, source, piece, &mut taken.told)?;
+    cap_keys(kept, cap, &mut taken.told)?;
+    Ok(taken)
+}
