@@ -5,3 +5,4 @@ mod BagSteps
 mod ChangeSteps
 mod FillSteps
 mod TakeSteps
+mod LineSteps

@@ -6,3 +6,4 @@ pub mod groups;
 pub mod keys;
 pub mod shown;
 mod takes;
+mod turn;
