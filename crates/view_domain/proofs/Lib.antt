@@ -6,3 +6,5 @@ mod ChangeSteps
 mod FillSteps
 mod TakeSteps
 mod LineSteps
+mod OutSteps
+mod AskSteps

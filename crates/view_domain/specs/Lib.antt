@@ -1,3 +1,7 @@
 pub mod Groups
 pub mod Shown
 pub mod Taken
+pub mod Outboxes
+pub mod Domains
+pub mod Codes
+pub mod Received

@@ -1,12 +1,12 @@
 -- What calls in a row make of what is kept at a key.
-use Rattle.std.specs.Prelude.{◌≡◌, ℕ, List, [], ◌∷◌, Option, Some, None, slice_get, cond}
+use Rattle.std.specs.Prelude.{◌≡◌, ℕ, List, [], ◌∷◌, Option, Some, None, slice_get, map, cond}
 use Rattle.row.specs.Cells.{Datum, Cells, datum_of, row_cmp, same}
 use Rattle.row.specs.Bags.{sorted}
 use Rattle.row.specs.BagChanges.{with_records}
 use Rattle.row.specs.declared.record.Record.{Record}
 use Rattle.row.specs.declared.value.Value.{Value}
 use Rattle.row.specs.Changes.{IsCovered}
-use Rattle.packet.specs.Messages.{Piece}
+use Rattle.packet.specs.Messages.{Ask, Piece}
 use Rattle.partial.specs.States.{State, evicted, after_change}
 
 -- at key k, after source s has evicted these keys
@@ -28,3 +28,7 @@ pub record IsStepOf (part : List Cells) (records : List Record) (next : List Cel
 abbrev pub IsPieceFor : Option Piece → Value → List (List Cells) → ℕ → Type 0
 IsPieceFor None k parts s = Unit {0}
 IsPieceFor (Some piece) k parts s = piece.key ≡ datum_of k → slice_get parts s ≡ Some (sorted row_cmp piece.rows)
+
+-- a request of each key by the tag
+abbrev pub asks_by : ℕ → List Datum → List Ask
+asks_by tag ks = map (λ k. record { tag = tag; key = k }) ks

@@ -1,9 +1,12 @@
 //! The domain of a view shard, over fronts of any kind.
 #![tactic(auto)]
 
+mod asks;
 mod bags;
 pub mod groups;
 pub mod keys;
+pub mod message;
+pub mod outbox;
 pub mod shown;
 mod takes;
 mod turn;

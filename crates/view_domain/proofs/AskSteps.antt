@@ -1,0 +1,85 @@
+-- Requests, keys that begin to wait, and markers.
+use Rattle.std.proofs.Common.{◌≡◌, ℕ, zero, suc, ◌+◌, Bool, true, false, not, cond, List, [], ◌∷◌, ◌++◌, Option, Some, None, map, filter, replicate, length, refl, ap, sym, ◌∙◌, subst, add-one, true≢false}
+use Rattle.row.specs.Cells.{Datum, Cells, datum_of, same}
+use Rattle.row.specs.Groups.{equal}
+use Rattle.row.specs.declared.value.Value.{Value}
+use Rattle.partial.specs.States.{State, Hole, Waiting, Filled, state_of, order_of, entry_of, begun, is_hole, OthersStay}
+use Rattle.partial.specs.Sums.{sum_of_bags}
+use Rattle.partial.specs.Truth.{IsTrueOf}
+use Rattle.partial.proofs.Truth.{begin_keeps}
+use Rattle.packet.specs.Keys.{stand_of, stands_of, begin_at}
+use Rattle.packet.specs.Marks.{Gathering, has_come, complete, partly}
+use Rattle.packet.specs.Messages.{Ask}
+use Rattle.packet.proofs.KeptKeys.{stand_is, begin_is, keys_stay}
+use Rattle.view_domain.specs.Shown.{rows_at, LeadsTo}
+use Rattle.view_domain.specs.Taken.{asks_by}
+use Rattle.view_domain.proofs.StateSteps.{Store, one_key, leads_same}
+
+-- ---- requests
+pub asks_more : (tag : ℕ) (done : List Value) (key : Value) → asks_by tag (map datum_of (done ++ key ∷ [])) ≡ asks_by tag (map datum_of done) ++ record { tag = tag; key = datum_of key } ∷ []
+asks_more tag [] key = refl
+asks_more tag (k ∷ ks) key = ap (λ asks. record { tag = tag; key = datum_of k } ∷ asks) (asks_more tag ks key)
+
+replicate_last : {X : Type 0} (n : ℕ) (x : X) → x ∷ replicate n x ≡ replicate n x ++ x ∷ []
+replicate_last zero x = refl
+replicate_last (suc n) x = ap (λ xs. x ∷ xs) (replicate_last n x)
+
+pub replicate_more : {X : Type 0} (n : ℕ) (x : X) → replicate (n + 1) x ≡ replicate n x ++ x ∷ []
+replicate_more n x = ap (λ k. replicate k x) (add-one n) ∙ replicate_last n x
+
+-- ---- a key that begins to wait
+module _ (old new : Store) (copy key : Value) (is_key : datum_of copy ≡ datum_of key) (n : ℕ) (own : state_of equal new copy ≡ begun n (state_of equal old copy)) (others : OthersStay equal copy old new) (order : order_of new ≡ order_of old) where
+  pub begun_is : stands_of new ≡ begin_at n (datum_of key) (stands_of old)
+  begun_is = begin_is old new copy others n own order ∙ ap (λ d. begin_at n d (stands_of old)) is_key
+
+  pub begun_true : (k : Value) (parts : List (List Cells)) → length parts ≡ n → IsTrueOf sum_of_bags parts (state_of equal old k) → IsTrueOf sum_of_bags parts (state_of equal new k)
+  begun_true k parts count t = rw (one_key old new copy others (begun n) own k) (step (same (datum_of copy) (datum_of k)))
+    where
+      step : (b : Bool) → IsTrueOf sum_of_bags parts (cond b (begun n (state_of equal old k)) (state_of equal old k))
+      step true = subst (λ m. IsTrueOf sum_of_bags parts (begun m (state_of equal old k))) count (begin_keeps sum_of_bags parts (state_of equal old k) t)
+      step false = t
+
+  entry_same : (st : State (List Cells)) → entry_of (begun n st) ≡ entry_of st
+  entry_same Hole = refl
+  entry_same (Waiting pieces) = refl
+  entry_same (Filled e) = refl
+
+  pub begun_shown : LeadsTo (rows_at old) [] new
+  begun_shown = leads_same old new copy others (rows_at old) [] (ap entry_of own ∙ entry_same (state_of equal old copy)) (record { each = λ k. refl })
+
+  idle : (st : State (List Cells)) → is_hole st ≡ false → begun n st ≡ st
+  idle Hole h = absurd (true≢false h)
+  idle (Waiting pieces) h = refl
+  idle (Filled e) h = refl
+
+  pub idle_is : is_hole (state_of equal old copy) ≡ false → stands_of new ≡ stands_of old
+  idle_is h = keys_stay old new (λ k. ap stand_of (one_key old new copy others (λ st. st) (own ∙ idle (state_of equal old copy) h) k ∙ step (same (datum_of copy) (datum_of k)) (state_of equal old k))) order
+    where
+      step : (b : Bool) (st : State (List Cells)) → cond b st st ≡ st
+      step true st = refl
+      step false st = refl
+
+hole_at : (st : State (List Cells)) → is_hole (stand_of st) ≡ is_hole st
+hole_at Hole = refl
+hole_at (Waiting pieces) = refl
+hole_at (Filled e) = refl
+
+pub hole_is : (kept : Store) (copy key : Value) → datum_of copy ≡ datum_of key → is_hole ((stands_of kept).at (datum_of key)) ≡ is_hole (state_of equal kept copy)
+hole_is kept copy key e = ap (λ d. is_hole ((stands_of kept).at d)) (sym e) ∙ (ap is_hole (stand_is kept copy) ∙ hole_at (state_of equal kept copy))
+
+-- ---- markers
+pub none_come : (gs : List Gathering) → complete gs ≡ [] → partly gs ≡ gs
+none_come [] h = refl
+none_come (g ∷ gs) h = step (has_come g) h (none_come gs)
+  where
+    step : (b : Bool) → map (λ (g : Gathering). g.mark) (cond b (g ∷ filter has_come gs) (filter has_come gs)) ≡ [] → (complete gs ≡ [] → partly gs ≡ gs) → cond (not b) (g ∷ partly gs) (partly gs) ≡ g ∷ gs
+    step true h rest = cc
+    step false h rest = ap (λ xs. g ∷ xs) (rest h)
+
+pub still_waiting : (gs : List Gathering) → complete (partly gs) ≡ []
+still_waiting [] = refl
+still_waiting (g ∷ gs) = step (has_come g) refl (still_waiting gs)
+  where
+    step : (b : Bool) → has_come g ≡ b → complete (partly gs) ≡ [] → complete (cond (not b) (g ∷ partly gs) (partly gs)) ≡ []
+    step true e h = h
+    step false e h = rw e h

@@ -1,0 +1,37 @@
+-- What a view domain makes of a message.
+use Rattle.std.specs.Prelude.{◌≡◌, ◌⊎◌, Some, Option, slice_get}
+use Rattle.row.specs.declared.refused.Refused.{Refused}
+use Rattle.row.specs.declared.refused.Refused.TheVariants.{NoMemory, Gap}
+use Rattle.packet.specs.Codes.{marks_in}
+use Rattle.packet.specs.Outboxes.{packets_on}
+use Rattle.packet.specs.declared.mode.Mode.TheVariants as mode
+use Rattle.protocol.specs.Views.{ToView, packet, want, order, Done}
+use Rattle.view_domain.specs.Domains.{Domain, lines_of, view_of, stopped}
+use Rattle.view_domain.specs.Outboxes.{ShownView, OutboxView, IsClear, keys_told, cut_after, asked_after}
+use Rattle.view_domain.specs.Shown.{LeadsTo, rows_at}
+
+-- a packet starts at the line of its stage shard
+abbrev pub IsNext : Domain → ToView → Type 0
+IsNext d (packet s p) = slice_get (lines_of d.cut) s ≡ Some p.from
+IsNext d (want k) = Unit {0}
+IsNext d (order k) = Unit {0}
+
+-- what it tells its shown copy turns what was shown of the one into what is to be shown of the other
+pub record IsShown (old : Domain) (s : Option ShownView) (new : Domain) : Type 0 where
+  pub keys : LeadsTo (rows_at old.kept) (keys_told s) new.kept
+  pub cut : lines_of new.cut ≡ cut_after s (lines_of old.cut)
+  pub asked : new.asked ≡ asked_after s old.asked
+
+-- all went as the definition says
+pub record IsDone (m : ToView) (d : Done) (old : Domain) (out : OutboxView) (new : Domain) : Type 0 where
+  pub next : IsNext old m
+  pub view : view_of new ≡ d.view
+  pub requests : packets_on out.requests ≡ d.requests
+  pub acks : marks_in out.ack ≡ d.acks
+  pub shown : IsShown old out.shown new
+  pub running : new.mode ≡ mode.Running
+
+-- a packet out of turn, and all else is as it was; or want of memory. It has stopped, and puts out nothing
+pub record Fails (m : ToView) (old : Domain) (e : Refused) (out : OutboxView) (new : Domain) : Type 0 where
+  pub silent : IsClear out
+  pub why : ((e ≡ Gap) × (IsNext old m → ⊥) × (new ≡ stopped old)) ⊎ ((e ≡ NoMemory) × IsNext old m × (new.mode ≡ mode.Broken))

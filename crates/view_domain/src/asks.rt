@@ -1,0 +1,207 @@
+//! Requests of a view shard, and what a packet makes it put out.
+ghost use Rattle.std.specs.Prelude.{◌≡◌, ◌<◌, [], List, Some, None, map, length, replicate, slice_get, slice_set, true, false, is_some, IfOk, OnOk, OnErr, IfSome, IfNone, Option};
+ghost use Rattle.row.specs.Bags.{Each};
+ghost use Rattle.row.specs.Cells.{Cells, Datum, datum_of};
+ghost use Rattle.row.specs.Changes.{IsCovered};
+ghost use Rattle.row.specs.Groups.{equal};
+ghost use Rattle.row.specs.declared.value.Value.{Value as Key};
+ghost use Rattle.partial.specs.States.{state_of, is_hole, ChangeFits};
+ghost use Rattle.partial.specs.Sums.{sum_of_bags};
+ghost use Rattle.partial.specs.Truth.{IsTrueOf};
+ghost use Rattle.packet.specs.Codes.{mark_in, marks_in};
+ghost use Rattle.packet.specs.Keys.{Ascends, is_among, stands_of, begin_at};
+ghost use Rattle.packet.specs.Marks.{complete, partly};
+ghost use Rattle.packet.specs.Messages.{KeyedRecord};
+ghost use Rattle.packet.specs.Truth.{changes_at, key_of_piece};
+ghost use Rattle.protocol.specs.ViewSteps.{again, capped, drop_all, give_piece, marks_with};
+ghost use Rattle.view_domain.specs.Groups.{named_in};
+ghost use Rattle.view_domain.specs.Shown.{LeadsTo, rows_at};
+ghost use Rattle.view_domain.specs.Outboxes.{new_line};
+ghost use Rattle.view_domain.specs.Taken.{IsStepOf, IsPieceFor, asks_by};
+
+use crate::shown::KeyChange;
+use crate::takes::take_in;
+use model::fronts::Fronts;
+use packet::line::Line;
+use packet::marks::Marks;
+use packet::piece::Piece;
+use packet::request::{Marker, Request};
+use packet::stage_packet::Content;
+use partial::partial::Partial;
+use plan::domain::Tag;
+use row::bag::Bag;
+use row::value::Value;
+use std::alloc::{AllocError, Global};
+
+/// How a view asks for keys, and how many filled ones each of its shards keeps.
+#[derive(Clone, Copy)]
+pub(crate) struct Asks {
+    pub(crate) tag: Tag,
+    pub(crate) cap: usize,
+}
+
+/// A request for each of the keys, in order.
+fn requests_for(alloc: Global, tag: Tag, keys: Vec<Value>) -> Result<Vec<Request>, AllocError>
+    ensures { IfOk result (λ v. v.items ≡ asks_by tag.0 (map datum_of keys.items)) }
+{
+    let mut requests = Vec::new(alloc);
+    for key in keys {
+        requests.push(Request::new(tag, key))?;
+    }
+    Ok(requests)
+}
+
+/// So many requests of one key.
+fn requests_of(
+    alloc: Global,
+    tag: Tag,
+    key: &Value,
+    count: usize,
+) -> Result<Vec<Request>, AllocError>
+    ensures { IfOk result (λ v. v.items
+        ≡ replicate count (record { tag = tag.0; key = datum_of key.now })) }
+{
+    let mut requests = Vec::new(alloc);
+    for _ in 0..count {
+        requests.push(Request::new(tag, key.try_clone(alloc)?))?;
+    }
+    Ok(requests)
+}
+
+/// Makes a hole wait, and answers a request of it for each source; `None` where the key is no hole,
+/// and then nothing changes.
+pub(crate) fn begin_key(
+    alloc: Global,
+    kept: &mut Partial<Value, Bag>,
+    tag: Tag,
+    key: Value,
+) -> Result<Option<Vec<Request>>, AllocError>
+    ensures sources { kept.new.sources ≡ kept.old.sources }
+    ensures hole { IfOk result (λ o. is_some o
+        ≡ is_hole ((stands_of kept.old).at (datum_of key))) }
+    ensures begins { IfOk result (λ o. IfSome o (λ v. stands_of kept.new
+        ≡ begin_at kept.old.sources (datum_of key) (stands_of kept.old))) }
+    ensures requests { IfOk result (λ o. IfSome o (λ v. v.items ≡ replicate kept.old.sources
+        (record { tag = tag.0; key = datum_of key }))) }
+    ensures stays { IfOk result (λ o. IfNone o (stands_of kept.new ≡ stands_of kept.old)) }
+    ensures truth { (k : Key) (parts : List (List Cells)) → length parts ≡ kept.old.sources
+        → IsTrueOf sum_of_bags parts (state_of equal kept.old k)
+        → OnOk result (IsTrueOf sum_of_bags parts (state_of equal kept.new k)) }
+    ensures shown { OnOk result (LeadsTo (rows_at kept.old) [] kept.new) }
+{
+    let copy = key.try_clone(alloc)?;
+    if !kept.begin(alloc, copy)? {
+        return Ok(None);
+    }
+    let count = kept.sources();
+    Ok(Some(requests_of(alloc, tag, &key, count)?))
+}
+
+/// A copy of the line that a packet ends at, where it may have moved: a packet with a piece or a
+/// marker moves none.
+fn moved<F: Fronts>(
+    alloc: Global,
+    to: &Line<F>,
+    piece: &Option<Piece>,
+    marker: Option<Marker>,
+) -> Result<Option<Line<F>>, AllocError>
+    ensures { IfOk result (λ o. o ≡ new_line piece.now marker to.now) }
+{
+    match (piece, marker) {
+        (None, None) => Ok(Some(to.again(alloc)?)),
+        _ => Ok(None),
+    }
+}
+
+/// Takes in the marker of a source, if there is one: the one that has come from all now.
+fn come(
+    alloc: Global,
+    marks: &mut Marks,
+    source: usize,
+    marker: Option<Marker>,
+) -> Result<Option<Marker>, AllocError>
+    requires sender { source < marks.old.senders }
+    requires waiting { complete marks.old.waiting ≡ [] }
+    ensures marks { OnOk result (marks.new ≡ record marks.old {
+      waiting = partly (marks_with marks.old.senders source (mark_in marker) marks.old.waiting);
+    }) }
+    ensures ack { IfOk result (λ m. marks_in m
+        ≡ complete (marks_with marks.old.senders source (mark_in marker) marks.old.waiting)) }
+{
+    match marker {
+        Some(marker) => marks.come(alloc, source, marker),
+        None => Ok(None),
+    }
+}
+
+/// What a packet makes a view shard put out: what becomes of keys, requests to its sender, a copy
+/// of the line that it ends at where it may have moved, and the fence that it completes.
+#[derive(Drop)]
+pub(crate) struct Made<F: Fronts> {
+    pub(crate) told: Vec<KeyChange>,
+    pub(crate) requests: Vec<Request>,
+    pub(crate) line: Option<Line<F>>,
+    pub(crate) ack: Option<Marker>,
+}
+
+/// Takes in what a packet of a source carries, and makes all that is put out for it. Errors: memory
+/// only; what is then held is not said.
+pub(crate) fn prepare<F: Fronts>(
+    alloc: Global,
+    kept: &mut Partial<Value, Bag>,
+    marks: &mut Marks,
+    source: usize,
+    asks: Asks,
+    to: &Line<F>,
+    content: Content,
+) -> Result<Made<F>, AllocError>
+    requires up { Ascends (map datum_of content.evicts.items) }
+    requires apart { Each (λ (c : KeyedRecord). is_among (map datum_of content.evicts.items) c.key
+        ≡ false) content.changes.items }
+    requires fits { (k : Key) → is_among (named_in content.changes.items) (datum_of k) ≡ true
+        → ChangeFits IsCovered source (changes_at (datum_of k) content.changes.items)
+        (state_of equal kept.old k) }
+    requires sender { source < marks.old.senders }
+    requires waiting { complete marks.old.waiting ≡ [] }
+    ensures sources { kept.new.sources ≡ kept.old.sources }
+    ensures stands { OnOk result (stands_of kept.new
+        ≡ capped asks.cap (give_piece source (key_of_piece content.piece)
+        (drop_all source (map datum_of content.evicts.items) (stands_of kept.old)))) }
+    ensures truth { (k : Key) (parts : List (List Cells)) (part next : List Cells)
+        → slice_get parts source ≡ Some part
+        → (is_among (map datum_of content.evicts.items) (datum_of k) ≡ false
+        → IsStepOf part (changes_at (datum_of k) content.changes.items) next)
+        → IsPieceFor content.piece k (slice_set parts source next) source
+        → IsTrueOf sum_of_bags parts (state_of equal kept.old k)
+        → OnOk result (IsTrueOf sum_of_bags (slice_set parts source next)
+        (state_of equal kept.new k)) }
+    ensures shown { IfOk result (λ m. LeadsTo (rows_at kept.old) m.told.items kept.new) }
+    ensures requests { IfOk result (λ m. m.requests.items ≡ asks_by asks.tag.0
+        (again source (map datum_of content.evicts.items) (stands_of kept.old))) }
+    ensures line { IfOk result (λ m. m.line ≡ new_line content.piece content.marker to.now) }
+    ensures marks { OnOk result (marks.new ≡ record marks.old {
+      waiting = partly (marks_with marks.old.senders source (mark_in content.marker)
+          marks.old.waiting);
+    }) }
+    ensures ack { IfOk result (λ m. marks_in m.ack
+        ≡ complete (marks_with marks.old.senders source (mark_in content.marker)
+        marks.old.waiting)) }
+{
+    let Content {
+        changes,
+        evicts,
+        piece,
+        marker,
+    } = content;
+    let line = moved(alloc, to, &piece, marker)?;
+    let taken = take_in(alloc, kept, source, asks.cap, changes, evicts, piece)?;
+    let requests = requests_for(alloc, asks.tag, taken.asks)?;
+    let ack = come(alloc, marks, source, marker)?;
+    let told = taken.told;
+    Ok(Made {
+        told,
+        requests,
+        line,
+        ack,
+    })
+}
