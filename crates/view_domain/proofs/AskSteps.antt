@@ -1,6 +1,6 @@
 -- Requests, keys that begin to wait, and markers.
-use Rattle.std.proofs.Common.{◌≡◌, ℕ, zero, suc, ◌+◌, Bool, true, false, not, cond, List, [], ◌∷◌, ◌++◌, Option, Some, None, map, filter, replicate, length, refl, ap, sym, ◌∙◌, subst, add-one, true≢false}
-use Rattle.row.specs.Cells.{Datum, Cells, datum_of, same}
+use Rattle.std.proofs.Common.{◌≡◌, ℕ, zero, suc, ◌+◌, Bool, true, false, not, cond, List, [], ◌∷◌, ◌++◌, map, filter, replicate, length, refl, ap, sym, ◌∙◌, subst, add-one, true≢false}
+use Rattle.row.specs.Cells.{Cells, datum_of, same}
 use Rattle.row.specs.Groups.{equal}
 use Rattle.row.specs.declared.value.Value.{Value}
 use Rattle.partial.specs.States.{State, Hole, Waiting, Filled, state_of, order_of, entry_of, begun, is_hole, OthersStay}
@@ -9,7 +9,6 @@ use Rattle.partial.specs.Truth.{IsTrueOf}
 use Rattle.partial.proofs.Truth.{begin_keeps}
 use Rattle.packet.specs.Keys.{stand_of, stands_of, begin_at}
 use Rattle.packet.specs.Marks.{Gathering, has_come, complete, partly}
-use Rattle.packet.specs.Messages.{Ask}
 use Rattle.packet.proofs.KeptKeys.{stand_is, begin_is, keys_stay}
 use Rattle.view_domain.specs.Shown.{rows_at, LeadsTo}
 use Rattle.view_domain.specs.Taken.{asks_by}

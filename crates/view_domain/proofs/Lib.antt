@@ -8,3 +8,5 @@ mod TakeSteps
 mod LineSteps
 mod OutSteps
 mod AskSteps
+mod Holds
+mod Packets

@@ -1,7 +1,6 @@
 -- Fronts of a line, one after the other.
-use Rattle.std.proofs.Common.{◌≡◌, ℕ, zero, suc, ◌+◌, ◌<◌, ◌≤◌, List, [], ◌∷◌, Some, length, drop, take, slice_get, get_or, refl, ap, sym, ◌∙◌, arith, add-one}
+use Rattle.std.proofs.Common.{◌≡◌, ℕ, zero, suc, ◌+◌, ◌<◌, ◌≤◌, List, [], ◌∷◌, Some, length, drop, take, slice_get, get_or, refl, ap, ◌∙◌, arith, add-one}
 use Rattle.model.specs.Fronts.{LogView}
-use Rattle.model.specs.Logs.{Change}
 use Rattle.packet.specs.Lines.{entries_of, fronts_to}
 use Rattle.packet.specs.Truth.{Pointwise}
 

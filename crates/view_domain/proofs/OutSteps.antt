@@ -1,5 +1,5 @@
 -- What is put out.
-use Rattle.std.proofs.Common.{◌≡◌, List, Option, Result, Ok, Err, OnErr, sym, ap, ◌∙◌, subst}
+use Rattle.std.proofs.Common.{◌≡◌, List, Option, Result, Ok, Err, OnErr, sym, subst}
 use Rattle.packet.specs.Messages.{Ask, none_of}
 use Rattle.packet.specs.Outboxes.{EdgeView, packets_on}
 use Rattle.packet.specs.declared.request.Marker.{Marker}

@@ -13,7 +13,7 @@ ghost use Rattle.packet.specs.Keys.{Ascends, is_among, stands_of, begin_at};
 ghost use Rattle.packet.specs.Marks.{complete, partly};
 ghost use Rattle.packet.specs.Messages.{KeyedRecord};
 ghost use Rattle.packet.specs.Truth.{changes_at, key_of_piece};
-ghost use Rattle.protocol.specs.ViewSteps.{again, capped, drop_all, give_piece, marks_with};
+ghost use Rattle.protocol.specs.ViewSteps.{again, capped, counted, drop_all, give_piece, marks_with};
 ghost use Rattle.view_domain.specs.Groups.{named_in};
 ghost use Rattle.view_domain.specs.Shown.{LeadsTo, rows_at};
 ghost use Rattle.view_domain.specs.Outboxes.{new_line};
@@ -38,6 +38,17 @@ use std::alloc::{AllocError, Global};
 pub(crate) struct Asks {
     pub(crate) tag: Tag,
     pub(crate) cap: usize,
+}
+
+/// The count of requests with so many more; it stays at the greatest number.
+pub(crate) fn count(asked: u64, more: usize) -> u64
+    ensures { result ≡ counted asked more }
+{
+    if more as u64 <= u64::MAX - asked {
+        asked + more as u64
+    } else {
+        u64::MAX
+    }
 }
 
 /// A request for each of the keys, in order.

@@ -10,3 +10,4 @@ pub mod outbox;
 pub mod shown;
 mod takes;
 mod turn;
+pub mod view_domain;

@@ -1,4 +1,4 @@
-use Rattle.std.proofs.Common.{◌≡◌, ◌<◌, ◌≤◌, length, arith, rules, sym, ◌∙◌, refl, true≢false}
+use Rattle.std.proofs.Common.{◌<◌, length, arith, rules, sym, refl, true≢false}
 use Rattle.view_domain.proofs.LineSteps.{pointwise_at, pointwise_length, same_more, same_first, same_rest, same_end}
 use Rattle.view_domain.proofs.turn.starts_at.Goals as goal
 
