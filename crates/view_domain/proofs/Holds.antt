@@ -1,15 +1,18 @@
 -- What a view domain holds stays true, and what it does is what the step says.
-use Rattle.std.proofs.Common.{◌≡◌, ◌≢◌, ℕ, zero, suc, ◌+◌, Bool, true, false, cond, List, [], ◌∷◌, map, replicate, length, Option, None, refl, ap, sym, ◌∙◌, arith, true≢false}
+use Rattle.std.proofs.Common.{IfSome, ◌≡◌, ◌≢◌, ℕ, zero, suc, ◌+◌, Bool, true, false, cond, List, [], ◌∷◌, map, replicate, length, Option, None, refl, ap, sym, ◌∙◌, arith, true≢false}
 use Rattle.std.specs.List.{range_with_len}
 use Rattle.std.proofs.lemmas.List.{length-map}
-use Rattle.row.specs.Bags.{sorted}
+use Rattle.row.specs.Bags.{sorted, joined}
+use Rattle.row.specs.CellOrder.{row_total, row_same}
+use Rattle.row.proofs.Alike.{sorted_alike, sum_of_sorted}
 use Rattle.row.specs.Cells.{Datum, Cells, datum_of, row_cmp}
 use Rattle.row.specs.Groups.{equal}
 use Rattle.row.specs.declared.value.Value.{Value}
 use Rattle.plan.specs.Layouts.{Layout}
 use Rattle.model.specs.Fronts.{LogView}
-use Rattle.model.specs.Queries.{Line, parts}
-use Rattle.partial.specs.States.{state_of, is_hole}
+use Rattle.model.specs.Histories.{view_shard}
+use Rattle.model.specs.Queries.{Line, parts, answer}
+use Rattle.partial.specs.States.{State, Hole, Waiting, Filled, state_of, entry_of, is_hole}
 use Rattle.partial.specs.Sums.{sum_of_bags}
 use Rattle.partial.specs.Truth.{IsTrueOf}
 use Rattle.packet.specs.Keys.{stands_of, open_at, begin_at}
@@ -131,3 +134,15 @@ want_made d k new asked tag n more requests out hole running is_tag is_n stands 
 
 pub sound : (m : Mode) → m ≡ mode.Running → m ≢ mode.Broken
 sound m h b = let e : mode.Running ≡ mode.Broken = sym h ∙ b in cc
+
+-- ---- what is read
+answer_is : (p : Layout) (cut : List Line) (i : ℕ) (k : Datum) → sum_of_bags (view_shares p i k cut) ≡ answer p cut i k
+answer_is p cut i k = sorted_alike row_cmp row_total row_same (joined (view_shares p i k cut)) (joined (parts p 0 cut i k)) (record { each = λ z. sum_of_sorted row_cmp z (parts p 0 cut i k) })
+
+rows_true : (p : Layout) (cut : List Line) (i : ℕ) (k : Datum) (st : State (List Cells)) → IsTrueOf sum_of_bags (view_shares p i k cut) st → IfSome (entry_of st) (λ rows. rows ≡ answer p cut i k)
+rows_true p cut i k Hole t = tt
+rows_true p cut i k (Waiting pieces) t = tt
+rows_true p cut i k (Filled rows) t = t ∙ answer_is p cut i k
+
+pub read_true : (d : Domain) (key : Value) → HoldsTruth d → view_shard d.plan d.view (datum_of key) ≡ d.shard → IfSome (rows_at d.kept key) (λ rows. rows ≡ answer d.plan (lines_of d.cut) d.view (datum_of key))
+read_true d key h own = rows_true d.plan (lines_of d.cut) d.view (datum_of key) (state_of equal d.kept key) (h.keys key own)

@@ -1,14 +1,16 @@
 //! One view shard over its cut.
-ghost use Rattle.std.specs.Prelude.{◌≡◌, ◌≢◌, ◌<◌, ◌+◌, [], List, Some, None, Err, length, map, slice_get, IfOk, OnOk, IfErr};
+ghost use Rattle.std.specs.Prelude.{IfSome, ◌≡◌, ◌≢◌, ◌<◌, ◌+◌, [], List, Some, None, Err, length, map, slice_get, IfOk, OnOk, IfErr};
 ghost use Rattle.std.specs.Option.{option_copied};
 ghost use Rattle.row.specs.Bags.{Each};
 ghost use Rattle.row.specs.Cells.{datum_of};
+ghost use Rattle.model.specs.Histories.{view_shard};
+ghost use Rattle.model.specs.Queries.{answer};
 ghost use Rattle.packet.specs.Lines.{AreOf};
 ghost use Rattle.packet.specs.Truth.{sent_of};
 ghost use Rattle.protocol.specs.Views.{packet as sent_by, want as wanted, order as ordered};
 ghost use Rattle.protocol.specs.ViewSteps.{step};
 ghost use Rattle.view_domain.specs.Codes.{message_of, IsFrom, Meets};
-ghost use Rattle.view_domain.specs.Domains.{view_of, stopped};
+ghost use Rattle.view_domain.specs.Domains.{lines_of, view_of, stopped};
 ghost use Rattle.view_domain.specs.Outboxes.{IsClear};
 ghost use Rattle.view_domain.specs.Received.{Fails, IsDone};
 ghost use Rattle.view_domain.specs.Shown.{rows_at};
@@ -110,19 +112,23 @@ impl<'p, F: Fronts> ViewDomain<'p, F> {
         }
     }
 
-    /// The rows of a filled key, also where it has stopped. Takes no memory. Constant time.
+    /// The rows of a filled key, also where it has stopped: unless it is broken, those of a key of
+    /// its shard are the view's over its cut. Takes no memory. Constant time.
     pub fn get(&self, key: &Value) -> Option<&Bag>
-        ensures { option_copied result ≡ rows_at self.now.kept key.now }
+        ensures rows { option_copied result ≡ rows_at self.now.kept key.now }
+        ensures truth { self.now.mode ≢ Mode.Broken → view_shard self.now.plan self.now.view
+            (datum_of key.now) ≡ self.now.shard → IfSome (rows_at self.now.kept key.now)
+            (λ rows. rows ≡ answer self.now.plan (lines_of self.now.cut) self.now.view
+            (datum_of key.now)) }
     {
         self.kept.get(key)
     }
 
-    /// The line of a stage shard. Constant time.
-    pub fn line(&self, stage: usize) -> &Line<F>
-        requires { stage < length self.now.cut }
-        ensures { slice_get self.now.cut stage ≡ Some result.now }
+    /// The line of each stage shard. Constant time.
+    pub fn cut(&self) -> &[Line<F>]
+        ensures { result.now ≡ self.now.cut }
     {
-        &self.cut[stage]
+        &self.cut
     }
 
     /// Makes a filled key a hole. `NoMemory` breaks the domain.
