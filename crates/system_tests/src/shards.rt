@@ -42,6 +42,16 @@ const STEPS: &[Step] = &[
     (Change::Delete(3), Err(Refused::Absent)),
 ];
 
+/// Entries of a log of at most two.
+const FULL: &[Step] = &[
+    (Change::Insert(1, 7), Ok(&[(Sign::Plus, 1, 7)])),
+    (Change::Insert(2, 7), Ok(&[(Sign::Plus, 2, 7)])),
+    (Change::Insert(3, 7), Err(Refused::LogFull)),
+    (Change::Insert(1, 7), Err(Refused::Duplicate)),
+    (Change::Delete(3), Err(Refused::Absent)),
+    (Change::Delete(1), Err(Refused::LogFull)),
+];
+
 /// An author, a number of shards of ids, one of them, and the note that is found after the steps.
 const LOOKUPS: &[(u8, usize, usize, Option<u8>)] = &[
     (7, 1, 0, None),
@@ -57,7 +67,7 @@ fn entries_of_a_log(rt: HostRuntime) -> Result<(), Fail> {
         shard: BaseShard::new(rt.alloc(), 0, 6),
     };
     assert!(rt; notes.shard.is_empty());
-    notes.take_all(rt.alloc())?;
+    notes.take_all(rt.alloc(), STEPS)?;
     assert!(rt; notes.shard.len() == 6);
     for (place, (author, shards, shard, id)) in LOOKUPS.iter().enumerate() {
         let part = Part {
@@ -71,6 +81,14 @@ fn entries_of_a_log(rt: HostRuntime) -> Result<(), Fail> {
     Ok(())
 }
 
+#[test]
+fn entries_of_a_full_log(rt: HostRuntime) -> Result<(), Fail> {
+    let mut notes = Notes {
+        shard: BaseShard::new(rt.alloc(), 0, 2),
+    };
+    notes.take_all(rt.alloc(), FULL)
+}
+
 /// A base shard of notes.
 #[derive(Drop)]
 struct Notes {
@@ -79,8 +97,8 @@ struct Notes {
 }
 
 impl Notes {
-    fn take_all(&mut self, alloc: Global) -> Result<(), Fail> {
-        for (place, step) in STEPS.iter().enumerate() {
+    fn take_all(&mut self, alloc: Global, steps: &[Step]) -> Result<(), Fail> {
+        for (place, step) in steps.iter().enumerate() {
             if !self.is_answered(alloc, *step)? {
                 return Err(wrong(place));
             }
