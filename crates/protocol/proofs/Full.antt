@@ -33,6 +33,6 @@ pub nothing_named : (p : Layout) (r : Reader) (asked : Option (List Datum)) → 
 nothing_named p r None = refl
 nothing_named p r (Some a) = refl
 
-all_known : (right : Option Keys) (xs : List Datum) → right ≡ None → list_all (knows right) xs ≡ true
+pub all_known : (right : Option Keys) (xs : List Datum) → right ≡ None → list_all (knows right) xs ≡ true
 all_known right [] e = refl
 all_known right (x ∷ xs) e = rw (known right e x) (all_known right xs e)

@@ -93,7 +93,7 @@ once_append (x ∷ xs) ys a b c = (each_append (λ y. (x == y) ≡ false) xs ys 
 pub at_start : (p : Layout) (t k : ℕ) → base_at p t 0 + k ≡ base_at p t k
 at_start p t k = omega arith
 
-unequal : (a b : ℕ) → (a ≡ b → ⊥) → (a == b) ≡ false
+pub unequal : (a b : ℕ) → (a ≡ b → ⊥) → (a == b) ≡ false
 unequal a b f = by (a == b) refl
   where
     by : (c : Bool) → (a == b) ≡ c → (a == b) ≡ false
@@ -113,7 +113,7 @@ single p plan =
     let s = not_refused (has_known_places p) 22 _ k.1 in
     (not_refused (has_single_paths p) 24 _ s.1).0
 
-two_tables : (p : Layout) (side : SideLayout) → IsPlan p → p.right ≡ Some side → p.left.table ≡ side.table → ⊥
+pub two_tables : (p : Layout) (side : SideLayout) → IsPlan p → p.right ≡ Some side → p.left.table ≡ side.table → ⊥
 two_tables p side plan is e =
     let s : not (nat_eq side.table p.left.table) ≡ true = ap (if_there (λ (s : SideLayout). not (nat_eq s.table p.left.table))) (sym is) ∙ single p plan in
     absurd (grind (arith, nat_tests))
