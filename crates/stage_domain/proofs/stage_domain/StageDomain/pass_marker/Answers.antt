@@ -1,0 +1,18 @@
+use Rattle.std.proofs.Common.{ap, refl, subst}
+use Rattle.packet.specs.Codes.{mark_of}
+use Rattle.packet.specs.Marks.{MarksView}
+use Rattle.protocol.specs.Stages.{packet}
+use Rattle.protocol.specs.StageSteps.{step}
+use Rattle.stage_domain.specs.Domains.{Domain, IsDone, stage_of}
+use Rattle.stage_domain.proofs.Dones.{on_ok_all, marker_done}
+use Rattle.stage_domain.proofs.stage_domain.StageDomain.pass_marker.Goals as goal
+
+pub returns-clause-done : goal.returns-clause-done
+returns-clause-done g c =
+    let d = c.self.inside in
+    let old : Domain = record { plan = d.plan.now; shard = d.shard; line = d.line; marks = d.marks.waiting; mode = d.mode } in
+    let new : Domain = record { plan = d.plan.now; shard = d.shard; line = d.line; marks = c.take_marker-sent.new.marks.waiting; mode = c.mode_after-self-inside.result } in
+    let out = c.take_marker-sent.new.out in
+    on_ok_all c.take_marker-sent.result c.take_marker-sent.ensures.marks c.take_marker-sent.ensures.sent c.mode_after-self-inside.ensures.ok
+    (λ marks sent running. subst (λ (d : Domain). IsDone (step (stage_of d) (packet c.args.source c.args.next)) out new) c.self.view_is
+    (marker_done old new c.args.source d.marks.senders c.args.next (mark_of c.args.marker) out c.requires.piece c.requires.marker c.self.invariant.senders refl refl refl (ap (λ (m : MarksView). m.waiting) marks) sent running))

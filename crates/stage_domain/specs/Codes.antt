@@ -1,0 +1,9 @@
+-- The program's messages as data.
+use Rattle.protocol.specs.Stages.{ToStage, packet, request}
+use Rattle.stage_domain.specs.declared.message.ToStage.{ToStage as Code}
+use Rattle.stage_domain.specs.declared.message.ToStage.TheVariants as code
+
+-- a message
+abbrev pub message_of : {F W R : Type 0} → Code F W R → ToStage
+message_of (code.Packet source k) = packet source k
+message_of (code.Request ask) = request ask

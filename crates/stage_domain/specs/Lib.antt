@@ -1,0 +1,4 @@
+pub mod Told
+pub mod Domains
+pub mod Sides
+pub mod Codes
