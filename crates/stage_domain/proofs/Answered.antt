@@ -1,5 +1,5 @@
 -- The answer to a request.
-use Rattle.std.proofs.Common.{◌≡◌, ℕ, ◌==◌, Bool, true, false, cond, List, [], ◌∷◌, map, filter, length, Option, Some, None, slice_set, refl, ap, sym, ◌∙◌, subst}
+use Rattle.std.proofs.Common.{◌≡◌, ℕ, ◌==◌, Bool, true, false, cond, List, [], ◌∷◌, map, filter, Some, None, refl, sym, ◌∙◌, subst}
 use Rattle.row.specs.Cells.{Datum, Cells, row_cmp, has, shard}
 use Rattle.row.specs.CellOrder.{row_total, row_same}
 use Rattle.row.specs.Bags.{Each, sorted}
@@ -9,11 +9,10 @@ use Rattle.plan.specs.Outputs.{out, key_place}
 use Rattle.plan.proofs.OutputLaws.{output_alike}
 use Rattle.model.specs.Fronts.{LogView}
 use Rattle.model.specs.Histories.{view_shard}
-use Rattle.model.specs.Places.{sources}
 use Rattle.model.specs.Queries.{Line, left, right, part}
 use Rattle.packet.specs.Codes.{stage_packet_of}
 use Rattle.packet.specs.Lines.{entries_of, lengths_of, plan_of}
-use Rattle.packet.specs.Messages.{Ask, Piece, Sent, StagePacketView}
+use Rattle.packet.specs.Messages.{Ask, Piece, StagePacketView}
 use Rattle.packet.specs.Outboxes.{EdgeView, packets_on}
 use Rattle.packet.specs.Readers.{Reader as ReaderView, readers, is_of, is_reader, view_of}
 use Rattle.packet.specs.Truth.{sent_of}

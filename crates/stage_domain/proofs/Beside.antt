@@ -1,10 +1,10 @@
 -- Records beside their keys.
-use Rattle.std.proofs.Common.{◌≡◌, ℕ, zero, suc, ◌==◌, Bool, true, false, cond, List, [], ◌∷◌, map, filter, Option, Some, None, slice_get, refl, ap, sym, ◌∙◌, subst}
+use Rattle.std.proofs.Common.{◌≡◌, ℕ, zero, suc, ◌==◌, Bool, true, false, cond, List, [], ◌∷◌, map, filter, Some, slice_get, refl, ap, sym, ◌∙◌}
 use Rattle.std.proofs.lemmas.Bool.{eq-eqb, eqb-true}
 use Rattle.row.specs.Cells.{Datum, Cells, cell_at, has, has_shard, passes, same, shard}
 use Rattle.row.specs.Bags.{Each}
 use Rattle.row.specs.declared.record.Record.{Record}
-use Rattle.row.proofs.Shards.{same_is, same_self}
+use Rattle.row.proofs.Shards.{same_is}
 use Rattle.packet.specs.Messages.{KeyedRecord}
 use Rattle.packet.specs.Truth.{changes_at, records_for}
 use Rattle.stage_domain.specs.Told.{keyed_for}

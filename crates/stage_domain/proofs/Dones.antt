@@ -1,9 +1,8 @@
 -- A message that went as the protocol says.
-use Rattle.std.proofs.Common.{◌≡◌, ℕ, Bool, true, false, cond, List, [], ◌∷◌, map, length, Option, Some, None, is_some, slice_set, Result, Ok, Err, refl, ap, sym, ◌∙◌, subst}
+use Rattle.std.proofs.Common.{◌≡◌, ℕ, true, List, [], ◌∷◌, map, length, Option, Some, None, is_some, slice_set, Result, Ok, Err, refl, ap, sym, ◌∙◌}
 use Rattle.std.specs.Result.{OnOk}
 use Rattle.std.specs.Option.{option_map}
 use Rattle.row.specs.Bags.{Each}
-use Rattle.row.specs.declared.record.Record.{Record}
 use Rattle.plan.specs.Layouts.{Layout}
 use Rattle.model.specs.Places.{sources}
 use Rattle.model.specs.Queries.{Line}

@@ -1,5 +1,5 @@
 -- What the packet of an entry leaves of the line and of the rows, and the truth of what is told.
-use Rattle.std.proofs.Common.{◌≡◌, ℕ, zero, suc, ◌<◌, ◌≤◌, Bool, true, List, [], ◌∷◌, map, length, Some, None, get_or, slice_get, slice_set, refl, ap, sym, ◌∙◌, subst, arith}
+use Rattle.std.proofs.Common.{◌≡◌, ℕ, zero, suc, ◌<◌, ◌≤◌, Bool, true, List, [], ◌∷◌, length, Some, None, get_or, slice_get, slice_set, refl, ap, sym, ◌∙◌, subst, arith}
 use Rattle.std.specs.List.{list_all}
 use Rattle.row.specs.Bags.{Each}
 use Rattle.row.specs.Changes.{Turns, IsCovered}
@@ -12,12 +12,11 @@ use Rattle.model.specs.Fronts.{LogView, IsLog}
 use Rattle.model.specs.Legal.{limit}
 use Rattle.model.specs.Logs.{Change, fits}
 use Rattle.model.specs.Places.{sources, source_at, layout_of}
-use Rattle.model.specs.Queries.{Line, left, right}
 use Rattle.packet.specs.Codes.{EndsAt}
 use Rattle.packet.specs.Lines.{AreOf, IsOf, entries_of}
 use Rattle.packet.specs.Messages.{BasePacketView}
 use Rattle.packet.specs.Readers.{Reader}
-use Rattle.packet.specs.Truth.{Grows, IsFrontOf, IsLine, IsTrueBase, IsTrueStage, Pointwise, sent_rows}
+use Rattle.packet.specs.Truth.{IsFrontOf, IsLine, IsTrueBase, IsTrueStage, Pointwise, sent_rows}
 use Rattle.protocol.proofs.Lists.{map_set, pair_right}
 use Rattle.protocol.proofs.Runs.{line_set}
 use Rattle.stage_rows.specs.Held.{Held, AreFound, held_at, other, output_over}

@@ -1,6 +1,6 @@
 -- What a step of the protocol is where the right side is held in full and nothing waits.
-use Rattle.std.proofs.Common.{◌≡◌, ℕ, Bool, true, false, cond, ◌||◌, not, ◌==◌, List, [], ◌∷◌, ◌++◌, map, length, ◌-◌, Option, Some, None, slice_set, refl, ap, sym, ◌∙◌, append-nil}
-use Rattle.std.specs.List.{range_with_len, list_all}
+use Rattle.std.proofs.Common.{◌≡◌, ℕ, Bool, true, false, cond, ◌||◌, not, ◌==◌, List, [], ◌∷◌, map, length, ◌-◌, Option, Some, None, slice_set, refl, ap, ◌∙◌, append-nil}
+use Rattle.std.specs.List.{range_with_len}
 use Rattle.std.proofs.lemmas.List.{length-map}
 use Rattle.std.proofs.lemmas.List.FromFn.{length-range_with_len}
 use Rattle.row.specs.Cells.{Datum}
@@ -12,7 +12,7 @@ use Rattle.packet.specs.Messages.{Ask, BasePacketView, Sent, Mark, Piece, none_o
 use Rattle.packet.specs.Named.{for_each, named}
 use Rattle.packet.specs.Readers.{Reader, readers, is_of, view_of, is_left, right_tag}
 use Rattle.packet.specs.Keys.{Keys}
-use Rattle.protocol.specs.Stages.{Stage, ToStage, packet, request, Done, knows, behind, keys_for}
+use Rattle.protocol.specs.Stages.{Stage, packet, request, Done, behind, keys_for}
 use Rattle.protocol.specs.StageSteps.{step, next, quiet, put, append_each, packet_taken, looks, look_all, caps, asks, answered, moved, with_marker, with_piece, unknown, asks_for, piece_taken, piece_given}
 use Rattle.protocol.proofs.Full.{nothing_unknown, all_known}
 

@@ -1,15 +1,12 @@
 -- Lines of fronts of a plan.
-use Rattle.std.proofs.Common.{◌≡◌, ℕ, zero, suc, ◌+◌, ◌<◌, ◌≤◌, List, [], ◌∷◌, ◌++◌, map, length, take, Option, None, refl, ap, sym, ◌∙◌, arith, length-append}
-use Rattle.std.specs.List.{range_with_len}
+use Rattle.std.proofs.Common.{◌≡◌, ℕ, ◌<◌, List, [], ◌∷◌, ◌++◌, length, take, Option, None, refl, ap, sym, ◌∙◌, arith, length-append}
 use Rattle.std.proofs.lemmas.List.FromFn.{length-range_with_len}
 use mathlib.Core.List.{IsPrefix}
-use Rattle.row.specs.Bags.{Each}
 use Rattle.row.proofs.BagLemmas.{Each-at}
 use Rattle.row.specs.declared.record.Record.{Record}
 use Rattle.plan.specs.Facts.{IsTable, Facts}
 use Rattle.plan.specs.Layouts.{Layout, no_table, table_at}
 use Rattle.model.specs.Fronts.{LogView}
-use Rattle.model.specs.Logs.{Change}
 use Rattle.model.specs.Places.{sources, side_bases, side_count, right_bases, base_at}
 use Rattle.packet.specs.Codes.{mark_in, stage_packet_of}
 use Rattle.packet.specs.Lines.{AreOf, IsOf, plan_of, entries_of, lengths_of, fronts_to}

@@ -5,8 +5,8 @@ use Rattle.std.specs.List.{list_all, range_with_len}
 use Rattle.std.proofs.lemmas.Bool.Decides.{nat_tests}
 use Rattle.std.proofs.lemmas.List.FromFn.{length-range_with_len}
 use Rattle.row.specs.Cells.{Cells, row_cmp, has_shard}
-use Rattle.row.specs.Bags.{Each, times, IsAlike}
-use Rattle.row.specs.Changes.{gains, losses, Turns, IsCovered}
+use Rattle.row.specs.Bags.{Each, IsAlike}
+use Rattle.row.specs.Changes.{Turns, IsCovered}
 use Rattle.row.specs.declared.record.Record.{Record}
 use Rattle.row.proofs.BagLemmas.{times-append}
 use Rattle.row.proofs.RecordLaws.{Turns-filter}

@@ -1,5 +1,5 @@
 -- Packets that go to each view shard.
-use Rattle.std.proofs.Common.{◌≡◌, ℕ, List, [], ◌∷◌, map, length, refl, ap, sym, ◌∙◌}
+use Rattle.std.proofs.Common.{◌≡◌, List, [], ◌∷◌, map, length, refl, ap, ◌∙◌}
 use Rattle.std.proofs.lemmas.List.{length-map}
 use Rattle.packet.specs.Messages.{StagePacketView, none_of}
 use Rattle.packet.specs.Readers.{Reader}

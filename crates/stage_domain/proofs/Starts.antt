@@ -1,5 +1,5 @@
 -- A domain with no rows, and where a packet starts.
-use Rattle.std.proofs.Common.{◌≡◌, ◌≢◌, ℕ, zero, suc, ◌<◌, ◌≤◌, List, [], ◌∷◌, map, flat_map, length, take, drop, Option, Some, None, get_or, slice_get, IsTrue, refl, ap, sym, ◌∙◌, subst, arith}
+use Rattle.std.proofs.Common.{◌≡◌, ℕ, zero, suc, ◌<◌, ◌≤◌, List, [], ◌∷◌, length, take, drop, Option, Some, None, get_or, slice_get, IsTrue, refl, ap, sym, ◌∙◌, arith}
 use Rattle.std.specs.Prelude.{nat_eq}
 use Rattle.std.proofs.lemmas.Bool.Decides.{nat_tests}
 use mathlib.Core.List.{IsPrefix}
@@ -7,19 +7,18 @@ use Rattle.row.specs.Cells.{Cells, row_cmp}
 use Rattle.row.specs.Bags.{Each, IsAlike}
 use Rattle.plan.specs.Layouts.{SideLayout, Layout}
 use Rattle.model.specs.Fronts.{LogView, Agree}
-use Rattle.model.specs.Legal.{limit}
 use Rattle.model.specs.Logs.{Change}
 use Rattle.model.specs.Places.{sources, side_count}
-use Rattle.model.specs.Queries.{Line, side_share, side_rows, left, right_rows, right}
+use Rattle.model.specs.Queries.{Line, side_rows, left, right_rows, right}
 use Rattle.model.proofs.Prefixes.{prefix_length}
 use Rattle.packet.specs.Codes.{EndsAt}
 use Rattle.packet.specs.Lines.{AreOf, IsOf, entries_of, no_log}
 use Rattle.packet.specs.Marks.{MarksView}
 use Rattle.packet.specs.Messages.{BasePacketView}
-use Rattle.packet.specs.Truth.{IsFrontOf, IsLine, Pointwise}
+use Rattle.packet.specs.Truth.{IsFrontOf, Pointwise}
 use Rattle.packet.specs.declared.mode.Mode.TheVariants as mode
 use Rattle.stage_rows.specs.Held.{Held, AreFound}
-use Rattle.stage_domain.specs.Domains.{HoldsRows, HoldsTruth, log_of}
+use Rattle.stage_domain.specs.Domains.{HoldsTruth, log_of}
 use Rattle.stage_domain.proofs.Entered.{same_length}
 use Rattle.stage_domain.proofs.Lines.{prefix_taken}
 

@@ -1,18 +1,17 @@
 -- What a stage shard tells is true.
-use Rattle.std.proofs.Common.{◌≡◌, ℕ, List, [], ◌∷◌, map, filter, Option, Some, None, refl, ap, sym, ◌∙◌, arith}
+use Rattle.std.proofs.Common.{ℕ, List, [], Some, None, refl, arith}
 use Rattle.row.specs.Cells.{Datum, Cells, row_cmp, has}
-use Rattle.row.specs.Bags.{Each, times, IsAlike}
+use Rattle.row.specs.Bags.{IsAlike}
 use Rattle.row.specs.Changes.{Turns}
 use Rattle.row.specs.declared.record.Record.{Record}
 use Rattle.row.proofs.RecordLaws.{Turns-filter}
 use Rattle.plan.specs.Layouts.{Layout, view_at}
 use Rattle.plan.specs.Outputs.{out}
 use Rattle.plan.proofs.OutputLaws.{output_alike}
-use Rattle.model.specs.Histories.{view_shard}
 use Rattle.model.specs.Queries.{Line, left, right, part}
-use Rattle.packet.specs.Messages.{Mark, KeyedRecord, StagePacketView}
+use Rattle.packet.specs.Messages.{Mark}
 use Rattle.packet.specs.Readers.{Reader}
-use Rattle.packet.specs.Truth.{Grows, IsLine, IsTold, IsTrueStage, TurnsAt}
+use Rattle.packet.specs.Truth.{Grows, IsLine, IsTold, IsTrueStage}
 use Rattle.protocol.proofs.Runs.{line_self}
 use Rattle.stage_domain.specs.Told.{key_column, told, answer_of}
 use Rattle.stage_domain.proofs.Beside.{changes_of_key, keys_of_shard}

@@ -1,5 +1,5 @@
 -- A stage domain that holds both of its sides in full.
-use Rattle.std.specs.Prelude.{◌≡◌, ◌≢◌, ◌⊎◌, ◌<◌, ℕ, List, [], map, length, Option, None, Some, slice_get, slice_index_or}
+use Rattle.std.specs.Prelude.{◌≡◌, ◌≢◌, ◌⊎◌, ◌<◌, ℕ, List, [], map, length, None, Some, slice_get, slice_index_or}
 use Rattle.row.specs.Cells.{row_cmp}
 use Rattle.row.specs.Bags.{Each, IsAlike}
 use Rattle.row.specs.declared.refused.Refused.{Refused}
@@ -10,7 +10,7 @@ use Rattle.model.specs.Places.{sources, source_at}
 use Rattle.model.specs.Queries.{Line, left, right}
 use Rattle.packet.specs.Lines.{AreOf, entries_of, no_log}
 use Rattle.packet.specs.Marks.{Gathering, MarksView}
-use Rattle.packet.specs.Messages.{Ask, BasePacketView, StagePacketView, none_of}
+use Rattle.packet.specs.Messages.{BasePacketView, StagePacketView, none_of}
 use Rattle.packet.specs.Outboxes.{EdgeView, packets_on}
 use Rattle.packet.specs.Readers.{Reader, readers, view_of}
 use Rattle.packet.specs.Truth.{IsLine, Pointwise, sent_of}

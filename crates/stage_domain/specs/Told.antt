@@ -1,6 +1,6 @@
 -- What a stage shard tells view shards.
 use Rattle.std.specs.Prelude.{◌≡◌, ℕ, List, [], ◌∷◌, map, Option, Some, None}
-use Rattle.row.specs.Cells.{Datum, Cells, cell_at, row_cmp}
+use Rattle.row.specs.Cells.{Datum, cell_at, row_cmp}
 use Rattle.row.specs.Bags.{sorted}
 use Rattle.row.specs.declared.record.Record.{Record}
 use Rattle.plan.specs.Layouts.{Layout, view_at}

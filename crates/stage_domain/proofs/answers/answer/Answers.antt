@@ -1,4 +1,4 @@
-use Rattle.std.proofs.Common.{◌≡◌, Some, None, filter, refl, ap, sym, ◌∙◌, subst}
+use Rattle.std.proofs.Common.{Some, None, filter, refl, ap, sym, ◌∙◌, subst}
 use Rattle.row.specs.Bags.{sorted}
 use Rattle.row.specs.Cells.{datum_of, has, row_cmp}
 use Rattle.plan.specs.Layouts.{view_at}

@@ -1,4 +1,4 @@
-use Rattle.std.proofs.Common.{◌≡◌, ◌+◌, ◌*◌, ◌<◌, ap, ◌∙◌, subst, arith, length, flat_map}
+use Rattle.std.proofs.Common.{◌≡◌, ◌+◌, ap, ◌∙◌, subst, arith, length, flat_map}
 use Rattle.std.specs.List.{range_with_len}
 use Rattle.row.proofs.BagLemmas.{Each-at}
 use Rattle.plan.specs.Facts.{IsView}

@@ -1,4 +1,4 @@
-use Rattle.std.proofs.Common.{◌≡◌, ◌<◌, length, map, None, slice_set, ap, sym, ◌∙◌, subst}
+use Rattle.std.proofs.Common.{◌<◌, length, map, None, slice_set, ap, sym, ◌∙◌, subst}
 use Rattle.packet.specs.Lines.{entries_of}
 use Rattle.packet.specs.Readers.{readers}
 use Rattle.packet.specs.Truth.{IsTrueStage}

@@ -1,4 +1,4 @@
-use Rattle.std.proofs.Common.{◌∙◌, rules, None, slice_set, Some}
+use Rattle.std.proofs.Common.{◌∙◌, rules, None, slice_set}
 use Rattle.packet.specs.Lines.{entries_of}
 use Rattle.packet.specs.Readers.{readers}
 use Rattle.packet.proofs.Sends.{still_clear}

@@ -1,10 +1,10 @@
-use Rattle.std.proofs.Common.{[], Some, length, sym, ◌∙◌, ap, rules}
+use Rattle.std.proofs.Common.{[], Some, ◌∙◌, rules}
 use Rattle.packet.specs.Codes.{mark_of}
 use Rattle.packet.specs.Lines.{entries_of}
 use Rattle.packet.specs.Readers.{readers}
-use Rattle.packet.proofs.Sends.{same_count, still_clear}
+use Rattle.packet.proofs.Sends.{still_clear}
 use Rattle.stage_domain.specs.Told.{told}
-use Rattle.stage_domain.proofs.Sents.{each_alone, count_of}
+use Rattle.stage_domain.proofs.Sents.{each_alone}
 use Rattle.stage_domain.proofs.Truths.{marker_true}
 use Rattle.stage_domain.proofs.markers.send_marker.Goals as goal
 

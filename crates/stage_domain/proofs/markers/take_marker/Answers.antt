@@ -1,5 +1,5 @@
 use Rattle.std.proofs.Common.{◌∙◌, ap, sym, map, List, [], Some}
-use Rattle.packet.specs.Codes.{mark_of, marks_in}
+use Rattle.packet.specs.Codes.{marks_in}
 use Rattle.packet.specs.Lines.{entries_of}
 use Rattle.packet.specs.Messages.{Mark}
 use Rattle.packet.specs.Readers.{readers}

@@ -1,4 +1,4 @@
-use Rattle.std.proofs.Common.{◌≡◌, None, refl, ap, sym, ◌∙◌, subst}
+use Rattle.std.proofs.Common.{None, refl, ap, sym, ◌∙◌, subst}
 use Rattle.packet.specs.Lines.{AreOf, plan_of}
 use Rattle.packet.specs.Truth.{IsTrueStage}
 use Rattle.plan.specs.Layouts.{ViewLayout}

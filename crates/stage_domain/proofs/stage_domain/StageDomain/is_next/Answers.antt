@@ -1,4 +1,4 @@
-use Rattle.std.proofs.Common.{◌≡◌, ◌<◌, Some, length, get_or, slice_get, ap, sym, ◌∙◌, subst}
+use Rattle.std.proofs.Common.{◌≡◌, ◌<◌, Some, length, get_or, slice_get, sym, subst}
 use Rattle.model.specs.Fronts.{Agree}
 use Rattle.model.specs.Places.{sources}
 use Rattle.packet.specs.Lines.{IsOf, no_log}
