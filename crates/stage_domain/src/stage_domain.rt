@@ -141,6 +141,7 @@ impl<'p, F: Fronts> StageDomain<'p, F> {
         requires meets { Meets F.are_one self.old (message_of message) }
         ensures done { OnOk result (IsDone (step (stage_of self.old) (message_of message))
             out.new self.new) }
+        ensures next { OnOk result (IsNext self.old (message_of message)) }
         ensures stopped { self.old.mode ≢ Mode.Running → (result ≡ Err Refused.Stopped)
             × (self.new ≡ self.old) × (out.new ≡ out.old) }
         ensures refused { self.old.mode ≡ Mode.Running → IfErr result (λ e. Fails self.old
@@ -196,6 +197,7 @@ impl<'p, F: Fronts> StageDomain<'p, F> {
         requires meets { Meets F.are_one self.old (packet source next) }
         ensures done { OnOk result (IsDone (step (stage_of self.old) (packet source next))
             out.new self.new) }
+        ensures next { OnOk result (IsNext self.old (packet source next)) }
         ensures refused { IfErr result (λ e. Fails self.old (packet source next) e self.new) }
         ensures unsent { OnErr result (IsSilent out.new) }
         ensures edges { length out.new ≡ length out.old }
