@@ -5,3 +5,5 @@
 mod packets;
 #[cfg(test)]
 mod stages;
+#[cfg(test)]
+mod views;
