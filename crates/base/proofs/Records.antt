@@ -1,13 +1,14 @@
 -- The records that an entry brings: how many, and what they change.
-use Rattle.std.proofs.Common.{◌≡◌, ℕ, ◌+◌, Bool, true, false, not, cond, List, [], ◌∷◌, ◌++◌, map, filter, length, Some, refl, ap, sym, ◌∙◌, arith, Result, Ok, Err, IfOk}
+use Rattle.std.proofs.Common.{◌≡◌, ℕ, ◌+◌, Bool, true, false, not, cond, List, [], ◌∷◌, ◌++◌, map, filter, length, Option, Some, None, IfSome, Bor, refl, ap, sym, ◌∙◌, arith, Result, Ok, Err, IfOk}
 use Rattle.std.specs.Prelude.{⊤}
 use Rattle.std.specs.List.{IsDistinct}
+use Rattle.std.specs.Option.{option_copied}
 use Rattle.std.specs.Map.{keys_of, values_of, lookup}
 use Rattle.std.proofs.lemmas.List.Elements.{All-head, All-tail}
 use Rattle.std.proofs.lemmas.Map.Keys.{IsDistinct-tail}
 use Rattle.std.proofs.lemmas.Map.{NonePasses}
 use Rattle.std.proofs.lemmas.Map.Entries.{none_past_head}
-use Rattle.row.specs.Cells.{Cells, cell_at, datum_of, has, row_cmp}
+use Rattle.row.specs.Cells.{Datum, Cells, cell_at, datum_of, has, row_cmp}
 use Rattle.row.specs.CellOrder.{row_total, row_same}
 use Rattle.row.specs.Bags.{one, times, sorted, IsAlike}
 use Rattle.row.specs.Changes.{gains, losses, Turns}
@@ -66,12 +67,19 @@ found_only key v row (e ∷ es) keyed d h =
     step false is h rest = rest h
 
 -- so it is in the rows in order
-pub found_sorted : (key : ℕ) (v : Value) (row : Cells) (es : List (Value × Cells)) → AreKeyed key es → IsDistinct eq-value.it (keys_of es) → lookup (eq-value.it v) es ≡ Some row
+found_sorted : (key : ℕ) (v : Value) (row : Cells) (es : List (Value × Cells)) → AreKeyed key es → IsDistinct eq-value.it (keys_of es) → lookup (eq-value.it v) es ≡ Some row
     → filter (has key (datum_of v)) (sorted row_cmp (values_of es)) ≡ row ∷ []
 found_sorted key v row es keyed d h =
     let only = found_only key v row es keyed d h in
     let like = filter_alike row_cmp row_total row_same (has key (datum_of v)) (values_of es) (sorted row_cmp (values_of es)) (alike_sym row_cmp _ _ (sorted_self row_cmp (values_of es))) in
     sym (one_alike _ _ like (ap length only)) ∙ only
+
+-- and what is found is that row
+pub found_row : (key : ℕ) (v : Value) (d : Datum) (es : List (Value × Cells)) → AreKeyed key es → IsDistinct eq-value.it (keys_of es) → datum_of v ≡ d → (found : Option (Bor Cells)) → option_copied found ≡ lookup (eq-value.it v) es
+    → IfSome found (λ r. filter (has key d) (sorted row_cmp (values_of es)) ≡ r.now ∷ [])
+found_row key v d es keyed unique own None is = tt
+found_row key v d es keyed unique own (Some r) is =
+    ap (λ k. filter (has key k) (sorted row_cmp (values_of es))) (sym own) ∙ found_sorted key v r.now es keyed unique (sym is)
 
 -- ---- the records of an entry
 -- an entry that takes a row away takes one

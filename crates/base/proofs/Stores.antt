@@ -88,12 +88,14 @@ place_there key v d es keyed own h found is =
     step None h = cc
     step (Some x) h = refl
 
-pub row_there : (key : ℕ) (v : Value) (es : List (Value × Cells)) → AreKeyed key es → is_held key (sorted row_cmp (values_of es)) (datum_of v) ≡ true → (found : Option (Bor Cells)) → option_copied found ≡ lookup (equal v) es → IsSome found
-row_there key v es keyed h found is = step found (ap is_some is ∙ (sym (held_sorted key v es keyed) ∙ h))
+-- what is found says whether the key is held
+pub found_held : (key : ℕ) (v : Value) (d : Datum) (es : List (Value × Cells)) → AreKeyed key es → datum_of v ≡ d → (found : Option (Bor Cells)) → option_copied found ≡ lookup (equal v) es → is_some found ≡ is_held key (sorted row_cmp (values_of es)) d
+found_held key v d es keyed own found is =
+    step found ∙ (ap is_some is ∙ (sym (held_sorted key v es keyed) ∙ ap (is_held key (sorted row_cmp (values_of es))) own))
   where
-    step : (o : Option (Bor Cells)) → is_some (option_copied o) ≡ true → IsSome o
-    step None h = cc
-    step (Some x) h = refl
+    step : (o : Option (Bor Cells)) → is_some o ≡ is_some (option_copied o)
+    step None = refl
+    step (Some x) = refl
 
 -- the key that is ready is that for which there is room
 pub ready_is : (ready : Option Value) (v : Value) (d : Datum) → ready ≡ Some v → option_map datum_of ready ≡ Some d → datum_of v ≡ d

@@ -1,5 +1,5 @@
 //! The rows of one shard of one table, by their keys.
-ghost use Rattle.std.specs.Prelude.{◌≡◌, ◌≢◌, ◌+◌, ◌++◌, ◌∷◌, [], List, filter, ◌<◌, ◌↔◌, true, false, if◌then◌else◌, IsTrue, IsOk, OnOk, IfOk, OnErr, IsOkUnless, Some, None, length};
+ghost use Rattle.std.specs.Prelude.{◌≡◌, ◌≢◌, ◌+◌, ◌++◌, ◌∷◌, [], List, filter, ◌<◌, ◌↔◌, true, false, if◌then◌else◌, IsTrue, IsOk, OnOk, IfOk, IfErr, IfSome, OnErr, IsOkUnless, Some, None, is_some, length};
 ghost use Rattle.std.specs.List.Sorted.{IsPermutation};
 ghost use Rattle.std.specs.HashMap.{get, spare, IsUnique};
 ghost use Rattle.row.specs.Cells.{datum_of, cell_at, has};
@@ -89,28 +89,30 @@ impl BaseShard {
         ensures front { (front : List Change) → IsAt self.now front → result
             ≡ verdict (refusal self.now.key self.now.limit front (change_of entry.now)) }
     {
+        self.check_found(entry, self.find(entry).is_some())
+    }
+
+    /// What `check` says of an entry whose key is held, or is not.
+    fn check_found(&self, entry: &Entry, held: bool) -> Result<(), Refused>
+        requires { held ≡ is_held self.now.key self.now.rows
+            (key_of self.now.key (change_of entry.now)) }
+        ensures { result ≡ verdict (refusal_of self.now (change_of entry.now)) }
+    {
         match entry {
-            Entry::Insert(row) => {
-                if self.holds(row.cell(self.key_column)) {
+            Entry::Insert(_) => {
+                if held {
                     Err(Refused::Duplicate)
                 } else {
                     self.check_limit()
                 }
             }
-            Entry::Delete(key) => self.check_held(key),
-            Entry::Update(row) => self.check_held(row.cell(self.key_column)),
-        }
-    }
-
-    /// `Absent` for a key that is not held, then `LogFull`.
-    fn check_held(&self, key: &Value) -> Result<(), Refused>
-        ensures { result ≡ verdict (if is_held self.now.key self.now.rows (datum_of key.now) then
-            full self.now.limit self.now.length else Some Refused.Absent) }
-    {
-        if self.holds(key) {
-            self.check_limit()
-        } else {
-            Err(Refused::Absent)
+            Entry::Delete(_) | Entry::Update(_) => {
+                if held {
+                    self.check_limit()
+                } else {
+                    Err(Refused::Absent)
+                }
+            }
         }
     }
 
@@ -125,17 +127,21 @@ impl BaseShard {
         }
     }
 
-    /// Some row has the key.
-    fn holds(&self, key: &Value) -> bool
-        ensures { result ≡ is_held self.now.key self.now.rows (datum_of key.now) }
+    /// The row of the entry's key, where one is held. One look-up.
+    fn find(&self, entry: &Entry) -> Option<&Row>
+        requires { HasKey self.now.key (change_of entry.now) }
+        ensures held { is_some result ≡ is_held self.now.key self.now.rows
+            (key_of self.now.key (change_of entry.now)) }
+        ensures only { IfSome result (λ r. filter (has self.now.key
+            (key_of self.now.key (change_of entry.now))) self.now.rows ≡ r.now ∷ []) }
     {
-        self.rows.contains_key(key)
+        self.rows.get(key_in(entry, self.key_column))
     }
 
     /// What an entry that `check` allows changes in the rows: plus the row of an Insert, minus the
     /// row of a Delete's key, and for an Update minus the old row of its key, then plus the new
-    /// one. Errors: memory only. One look-up of a key, but none for an Insert, and a copy of each
-    /// of these rows, at most two.
+    /// one. Errors: memory only. One look-up of a key, and a copy of each of these rows, at most
+    /// two.
     pub fn changes(&self, alloc: Global, entry: &Entry) -> Result<Vec<Record>, AllocError>
         requires key { HasKey self.now.key (change_of entry.now) }
         requires lawful { refusal_of self.now (change_of entry.now) ≡ None }
@@ -149,36 +155,84 @@ impl BaseShard {
             → Turns (rows_of self.now.key front) v.items
             (rows_of self.now.key (front ++ change_of entry.now ∷ []))) }
     {
-        self.records(alloc, entry)
+        self.records(alloc, entry, self.find(entry))
     }
 
-    /// The records of a lawful entry.
-    fn records(&self, alloc: Global, entry: &Entry) -> Result<Vec<Record>, AllocError>
-        requires key { HasKey self.now.key (change_of entry.now) }
+    /// What `check` says of the entry and, where it allows it, what `changes` does, with one
+    /// look-up of a key for both. Errors: memory only, and only for an entry that is allowed. A
+    /// copy of each row that the entry changes, at most two.
+    pub fn check_changes(
+        &self,
+        alloc: Global,
+        entry: &Entry,
+    ) -> Result<Result<Vec<Record>, Refused>, AllocError>
+        requires { HasKey self.now.key (change_of entry.now) }
+        ensures refused { IfOk result (λ r. IfErr r (λ e. refusal_of self.now (change_of entry.now)
+            ≡ Some e)) }
+        ensures lawful { OnErr result (refusal_of self.now (change_of entry.now) ≡ None) }
+        ensures allowed { IfOk result (λ r. OnOk r (refusal_of self.now (change_of entry.now)
+            ≡ None)) }
+        ensures records { IfOk result (λ r. IfOk r (λ v. v.items
+            ≡ records_at self.now (change_of entry.now))) }
+        ensures count { IfOk result (λ r. IfOk r (λ v. length v.items
+            ≡ record_count (change_of entry.now))) }
+        ensures turns { IfOk result (λ r. IfOk r (λ v. Turns self.now.rows v.items
+            (rows_with self.now (change_of entry.now)))) }
+        ensures records_at { IfOk result (λ r. IfOk r (λ v. (front : List Change)
+            → IsAt self.now front → v.items
+            ≡ records_of self.now.key (rows_of self.now.key front) (change_of entry.now))) }
+        ensures turns_at { IfOk result (λ r. IfOk r (λ v. (front : List Change)
+            → IsAt self.now front → Turns (rows_of self.now.key front) v.items
+            (rows_of self.now.key (front ++ change_of entry.now ∷ [])))) }
+    {
+        let found = self.find(entry);
+        if let Err(refused) = self.check_found(entry, found.is_some()) {
+            return Ok(Err(refused));
+        }
+        let records = self.records(alloc, entry, found)?;
+        Ok(Ok(records))
+    }
+
+    /// The records of a lawful entry, for whose key this row is found.
+    fn records(
+        &self,
+        alloc: Global,
+        entry: &Entry,
+        found: Option<&Row>,
+    ) -> Result<Vec<Record>, AllocError>
         requires lawful { refusal_of self.now (change_of entry.now) ≡ None }
+        requires held { is_some found ≡ is_held self.now.key self.now.rows
+            (key_of self.now.key (change_of entry.now)) }
+        requires only { IfSome found (λ r. filter (has self.now.key
+            (key_of self.now.key (change_of entry.now))) self.now.rows ≡ r.now ∷ []) }
         ensures records { IfOk result (λ v. v.items ≡ records_at self.now (change_of entry.now)) }
         ensures count { IfOk result (λ v. length v.items ≡ record_count (change_of entry.now)) }
     {
         let mut records = Vec::new(alloc);
         match entry {
             Entry::Insert(row) => records.push(plus(alloc, row)?)?,
-            Entry::Delete(key) => records.push(self.minus(alloc, key)?)?,
+            Entry::Delete(_) => records.push(self.minus(alloc, entry, found)?)?,
             Entry::Update(row) => {
-                records.push(self.minus(alloc, row.cell(self.key_column))?)?;
+                records.push(self.minus(alloc, entry, found)?)?;
                 records.push(plus(alloc, row)?)?;
             }
         }
         Ok(records)
     }
 
-    /// One less of the row of the key, which is held.
-    fn minus(&self, alloc: Global, key: &Value) -> Result<Record, AllocError>
-        requires held { is_held self.now.key self.now.rows (datum_of key.now) ≡ true }
+    /// One less of the row that is found for the entry's key, which is held.
+    fn minus(&self, alloc: Global, entry: &Entry, found: Option<&Row>) -> Result<Record, AllocError>
+        requires held { is_held self.now.key self.now.rows
+            (key_of self.now.key (change_of entry.now)) ≡ true }
+        requires found { is_some found ≡ is_held self.now.key self.now.rows
+            (key_of self.now.key (change_of entry.now)) }
+        requires only { IfSome found (λ r. filter (has self.now.key
+            (key_of self.now.key (change_of entry.now))) self.now.rows ≡ r.now ∷ []) }
         ensures record { IfOk result (λ r. r ≡ minus_of r.row) }
-        ensures only { IfOk result (λ r. filter (has self.now.key (datum_of key.now)) self.now.rows
-            ≡ r.row ∷ []) }
+        ensures only { IfOk result (λ r. filter (has self.now.key
+            (key_of self.now.key (change_of entry.now))) self.now.rows ≡ r.row ∷ []) }
     {
-        let row = self.rows.get(key).unwrap();
+        let row = found.unwrap();
         Ok(Record {
             row: row.try_clone(alloc)?,
             sign: Sign::Minus,
@@ -310,6 +364,18 @@ impl BaseShard {
     {
         let place = self.rows.get_mut(row.cell(self.key_column)).unwrap();
         *place = row;
+    }
+}
+
+/// The key of the entry's row, which is in this column.
+fn key_in(entry: &Entry, column: usize) -> &Value
+    requires { HasKey column (change_of entry.now) }
+    ensures { datum_of result.now ≡ key_of column (change_of entry.now) }
+{
+    match entry {
+        Entry::Insert(row) => row.cell(column),
+        Entry::Delete(key) => key,
+        Entry::Update(row) => row.cell(column),
     }
 }
 
