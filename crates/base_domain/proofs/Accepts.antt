@@ -31,22 +31,33 @@ use Rattle.base_domain.specs.Codes.{answer_of, base_of, write_of}
 use Rattle.base_domain.specs.declared.message.Write.{Write}
 use Rattle.base_domain.specs.Domains.{Domain, HoldsTruth}
 use Rattle.base_domain.specs.Received.{Goes, IsFor, base_at, refusal_at}
-use Rattle.base_domain.specs.Told.{Brings, part_packet, told}
+use Rattle.base_domain.specs.Told.{Brings, IsTurn, part_packet, parts_in, records_in, told}
 use Rattle.base_domain.proofs.Entries.{split_by, split_count, IsNextOf, part_is_true, told_entry}
 use Rattle.base_domain.proofs.Numbers.{next_more}
 use Rattle.model.proofs.Numbers.{absent, below_next}
 use Rattle.base_domain.proofs.Writes.{done_with}
+
+-- the same records by stage shard
+parts_moved : (so : Option SideLayout) (a b : List Record) (n : ℕ) (o : Option (List (List Record))) → o ≡ option_map (λ (side : SideLayout). parts_by side.key n a) so → IfSome o (λ v. a ≡ b) → o ≡ option_map (λ (side : SideLayout). parts_by side.key n b) so
+parts_moved None a b n o is same = is
+parts_moved (Some side) a b n o is same =
+    let e : a ≡ b = subst (λ (x : Option (List (List Record))). IfSome x (λ v. a ≡ b)) is same in
+    is ∙ ap (λ rs. Some (parts_by side.key n rs)) e
+
+each_some : {X : Type 0} {P Q : Type 0} (o : Option X) → (P → Q) → IfSome o (λ v. P) → IfSome o (λ v. Q)
+each_some None f h = tt
+each_some (Some x) f h = f h
 
 module _ (p : Layout) (table : ℕ) (l : LogView) (authors : List Author) (sh : Shard) (next : List ℕ) (h : HoldsTruth p table l authors sh next) where
   own_key : sh.key ≡ (layout_of l.plan l.base).key
   own_key = h.key ∙ ap (λ q. (layout_of q l.base).key) (sym h.plan)
 
   -- the shard refuses as its log does
-  pub shard_refusal : (e : Change) → refusal sh.key sh.limit l.entries e ≡ refusal_at l e
+  shard_refusal : (e : Change) → refusal sh.key sh.limit l.entries e ≡ refusal_at l e
   shard_refusal e = ap (λ k. refusal k sh.limit l.entries e) own_key ∙ ap (λ k. refusal (layout_of l.plan l.base).key k l.entries e) h.room
 
-  pub lawful_at : (e : Change) → refusal_at l e ≡ None → refusal_over sh.key sh.limit sh.rows sh.length e ≡ None
-  lawful_at e free = stands.refusal_at sh l.entries e h.at ∙ (shard_refusal e ∙ free)
+  pub over_shard : (e : Change) → refusal_over sh.key sh.limit sh.rows sh.length e ≡ refusal_at l e
+  over_shard e = stands.refusal_at sh l.entries e h.at ∙ shard_refusal e
 
   pub allows : (s m : ℕ) (e : Change) → IsFor l (length next) (write s m e) → next_of s authors ≤ m → refusal_at l e ≡ None → AllowsEntry l authors s m e
   allows s m e of rises free =
@@ -93,45 +104,53 @@ module _ (p : Layout) (table : ℕ) (l : LogView) (authors : List Author) (sh : 
   side_is = ap (λ q. side_in q (table_of q l.base)) h.plan ∙ ap (side_in p) (sym h.own)
 
   -- the records at the shard are those of the entry at its front
-  pub next_of_log : (m : LogView) (e : Change) (from n : ℕ) → m ≡ with_entry l e → from ≡ sh.length → n ≡ p.stages → Brings sh e → IsNextOf (base_of l authors) e m from n (records_at sh e)
-  next_of_log m e from n says starts stages brings = record {
+  records_same : (e : Change) → Brings sh e → records_at sh e ≡ records_in l e
+  records_same e brings = (brings l.entries h.at).0 ∙ ap (λ k. records_of k (rows_of k l.entries) e) own_key
+
+  turned : (e : Change) → Brings sh e → IsTurn l e
+  turned e brings = let t = brings l.entries h.at in subst (λ k. Turns (rows_of k l.entries) (records_of k (rows_of k l.entries) e) (rows_of k (l.entries ++ e ∷ []))) own_key (subst (λ rs. Turns (rows_of sh.key l.entries) rs (rows_of sh.key (l.entries ++ e ∷ []))) t.0 t.1)
+
+  pub parts_at : (o : Option (List (List Record))) (e : Change) → o ≡ option_map (λ (side : SideLayout). parts_by side.key p.stages (records_at sh e)) (side_in p table) → IfSome o (λ v. Brings sh e) → o ≡ parts_in l e
+  parts_at o e is brings =
+      parts_moved (side_in p table) (records_at sh e) (records_in l e) p.stages o is (each_some o (records_same e) brings)
+      ∙ (ap (λ (q : Layout). option_map (λ (side : SideLayout). parts_by side.key q.stages (records_in l e)) (side_in p table)) (sym h.plan)
+      ∙ ap (option_map (λ (side : SideLayout). parts_by side.key l.plan.stages (records_in l e))) (sym side_is))
+
+  pub turn_at : (o : Option (List (List Record))) (e : Change) → IfSome o (λ v. Brings sh e) → IfSome o (λ v. IsTurn l e)
+  turn_at o e brings = each_some o (turned e) brings
+
+module _ (l : LogView) (authors : List Author) where
+  next_of_log : (m : LogView) (e : Change) (from : ℕ) → m ≡ with_entry l e → from ≡ length l.entries → IsNextOf (base_of l authors) e m from l.plan.stages (records_in l e)
+  next_of_log m e from says starts = record {
     plan = ap (λ (x : LogView). x.plan) says;
     base = ap (λ (x : LogView). x.base) says;
     entries = ap (λ (x : LogView). x.entries) says;
-    starts = starts ∙ h.at.counts;
-    stages = stages ∙ ap (λ (q : Layout). q.stages) (sym h.plan);
-    records = (brings l.entries h.at).0 ∙ ap (λ k. records_of k (rows_of k l.entries) e) own_key;
+    starts = starts;
+    stages = refl;
+    records = refl;
   }
 
-  turned : (e : Change) → Brings sh e → Turns (rows_of (layout_of l.plan l.base).key l.entries) (records_of (layout_of l.plan l.base).key (rows_of (layout_of l.plan l.base).key l.entries) e) (rows_of (layout_of l.plan l.base).key (l.entries ++ e ∷ []))
-  turned e brings = let t = brings l.entries h.at in subst (λ k. Turns (rows_of k l.entries) (records_of k (rows_of k l.entries) e) (rows_of k (l.entries ++ e ∷ []))) own_key (subst (λ rs. Turns (rows_of sh.key l.entries) rs (rows_of sh.key (l.entries ++ e ∷ []))) t.0 t.1)
-
   -- each part is told truly
-  pub parts_true : (o : Option (List (List Record))) (m : LogView) (e : Change) (from : ℕ) → o ≡ option_map (λ (side : SideLayout). parts_by side.key p.stages (records_at sh e)) (side_in p table) → m ≡ with_entry l e → from ≡ sh.length → IfSome o (λ v. Brings sh e)
+  pub parts_true : (o : Option (List (List Record))) (m : LogView) (e : Change) (from : ℕ) → o ≡ parts_in l e → m ≡ with_entry l e → from ≡ length l.entries → IfSome o (λ v. IsTurn l e)
       → IfSome o (λ v. (j : ℕ) → j < length v → IsTrueBase (part_packet m from v j))
-  parts_true None m e from is says starts brings = tt
-  parts_true (Some v) m e from is says starts brings = λ j lt.
-      let s = split_by (side_in p table) (records_at sh e) p.stages v is in
-      let n = split_count s.0.key p.stages (records_at sh e) v s.2 in
-      part_is_true (base_of l authors) e m from p.stages (records_at sh e) (next_of_log m e from p.stages says starts refl brings) s.0 v j (omega (arith, lt, n)) s.2 (side_is ∙ s.1) (turned e brings)
+  parts_true None m e from is says starts turn = tt
+  parts_true (Some v) m e from is says starts turn = λ j lt.
+      let s = split_by (side_of l.plan l.base) (records_in l e) l.plan.stages v is in
+      let n = split_count s.0.key l.plan.stages (records_in l e) v s.2 in
+      part_is_true (base_of l authors) e m from l.plan.stages (records_in l e) (next_of_log m e from says starts) s.0 v j (omega (arith, lt, n)) s.2 s.1 turn
 
-  pub parts_count : (o : Option (List (List Record))) (e : Change) (k : ℕ) → o ≡ option_map (λ (side : SideLayout). parts_by side.key p.stages (records_at sh e)) (side_in p table) → k ≡ l.plan.stages → IfSome o (λ v. length v ≡ k)
+  pub parts_count : (o : Option (List (List Record))) (e : Change) (k : ℕ) → o ≡ parts_in l e → k ≡ l.plan.stages → IfSome o (λ v. length v ≡ k)
   parts_count None e k is at = tt
   parts_count (Some v) e k is at =
-      let s = split_by (side_in p table) (records_at sh e) p.stages v is in
-      split_count s.0.key p.stages (records_at sh e) v s.2 ∙ sym (at ∙ ap (λ (q : Layout). q.stages) h.plan)
+      let s = split_by (side_of l.plan l.base) (records_in l e) l.plan.stages v is in
+      split_count s.0.key l.plan.stages (records_in l e) v s.2 ∙ sym at
 
   -- what is told is what the protocol sends
-  pub told_is : (o : Option (List (List Record))) (m : LogView) (e : Change) (from k : ℕ) → o ≡ option_map (λ (side : SideLayout). parts_by side.key p.stages (records_at sh e)) (side_in p table) → m ≡ with_entry l e → from ≡ sh.length → IfSome o (λ v. Brings sh e) → k ≡ l.plan.stages
+  pub told_is : (o : Option (List (List Record))) (m : LogView) (e : Change) (from k : ℕ) → o ≡ parts_in l e → m ≡ with_entry l e → from ≡ length l.entries → k ≡ l.plan.stages
       → told m from o k ≡ to_stages l.plan (side_of l.plan l.base) (entry_packet (base_of l authors) e)
-  told_is o m e from k is says starts brings at =
-      let n : p.stages ≡ l.plan.stages = ap (λ (q : Layout). q.stages) (sym h.plan) in
-      ap (told m from o) (at ∙ sym n) ∙ ap (λ ps. told m from ps p.stages) (is ∙ ap (option_map (λ (side : SideLayout). parts_by side.key p.stages (records_at sh e))) (sym side_is))
-      ∙ told_entry (base_of l authors) e m from p.stages (records_at sh e) n (side_of l.plan l.base) (λ side some. next_of_log m e from p.stages says starts refl (has o is (sym side_is ∙ some) brings))
-    where
-      has : (x : Option (List (List Record))) → x ≡ option_map (λ (side : SideLayout). parts_by side.key p.stages (records_at sh e)) (side_in p table) → {side : SideLayout} → side_in p table ≡ Some side → IfSome x (λ v. Brings sh e) → Brings sh e
-      has None same {side} some b = absurd cc
-      has (Some v) same some b = b
+  told_is o m e from k is says starts at =
+      ap (told m from o) at ∙ ap (λ ps. told m from ps l.plan.stages) is
+      ∙ told_entry (base_of l authors) e m from l.plan.stages (records_in l e) refl (side_of l.plan l.base) (λ side some. next_of_log m e from says starts)
 
 -- ---- the answer
 at_last : {X : Type 0} (xs : List X) (x : X) (i : ℕ) → i ≡ length xs → slice_get (xs ++ x ∷ []) i ≡ Some x

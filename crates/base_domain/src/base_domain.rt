@@ -1,5 +1,5 @@
 //! One base shard with the right to append to its log.
-ghost use Rattle.std.specs.Prelude.{◌≡◌, ◌≢◌, ◌<◌, ◌≤◌, Err, [], ◌∷◌, true, false, Some, None, length, map, replicate, IfOk, OnOk, OnErr, IfErr, IsOkUnless};
+ghost use Rattle.std.specs.Prelude.{◌≡◌, ◌≢◌, ◌<◌, ◌≤◌, Err, [], ◌∷◌, true, false, Some, None, length, map, replicate, IfOk, IfSome, OnOk, OnErr, IfErr, IsOkUnless};
 ghost use Rattle.model.specs.Entries.{change_of};
 ghost use Rattle.packet.specs.Messages.{none_of};
 ghost use Rattle.packet.specs.Outboxes.{IsClear, packets_on};
@@ -10,11 +10,13 @@ ghost use Rattle.protocol.specs.Bases.{declined, next_of, request, marker};
 ghost use Rattle.model.specs.Places.{layout_of, table_of};
 ghost use Rattle.protocol.specs.BaseSteps.{appended, quiet, step, still, piece_for};
 ghost use Rattle.base_domain.specs.Codes.{message_of, write_of};
+ghost use Rattle.base_domain.specs.Told.{IsTurn, parts_in};
 ghost use Rattle.base.specs.Shards.{HasKey};
 
 use crate::message::{ToBase, Write};
 use crate::packets::{marker_packet, piece_packet, side_at};
-use crate::ready::ready_for;
+use crate::ready::{ready_for, weigh};
+use crate::stage_parts::StageParts;
 use crate::tells::{answer, answer_accepted, decline, tell, turn_away};
 use base::shard::BaseShard;
 use model::fronts::{Found, Fronts};
@@ -241,20 +243,24 @@ impl<'p, F: Fronts> BaseDomain<'p, F> {
     }
 
     /// Appends the entry of a write that the log allows, all room made before, and sends each stage
-    /// shard its packet. Errors: `Stopped` where the log has gone on without the domain; `NoMemory`
-    /// where it was refused after the step, and then the write is answered and no packet is put
-    /// out. Both stop the domain.
+    /// shard its packet with its part of the records. Errors: `Stopped` where the log has gone on
+    /// without the domain; `NoMemory` where it was refused after the step, and then the write is
+    /// answered and no packet is put out. Both stop the domain.
     fn accept(
         &mut self,
         alloc: Global,
         words: &F::Words,
         write: Write,
+        parts: Option<StageParts<F>>,
         out: &mut Outbox<F>,
     ) -> Result<(), Refused>
         requires ready { IsClear out.old }
         requires edges { length out.old.edges ≡ (F.log self.old.front).plan.stages }
         requires running { self.old.stopped ≡ false }
         requires of { IsFor (F.log self.old.front) (length self.old.next) (write_of write) }
+        requires parts { parts ≡ parts_in (F.log self.old.front) (change_of write.entry) }
+        requires turn { IfSome parts (λ ps. IsTurn (F.log self.old.front)
+            (change_of write.entry)) }
         requires rises { next_of write.session (F.authors self.old.front) ≤ write.number }
         requires free { refusal_at (F.log self.old.front) (change_of write.entry) ≡ None }
         requires key { HasKey (layout_of (F.log self.old.front).plan
@@ -268,15 +274,7 @@ impl<'p, F: Fronts> BaseDomain<'p, F> {
         ensures memory { result ≡ Err Refused.NoMemory → F.may_refuse }
         ensures edges { length out.new.edges ≡ length out.old.edges }
     {
-        let made = ready_for(
-            alloc,
-            self.plan,
-            self.table,
-            &mut self.shard,
-            &write.entry,
-            out,
-        );
-        let Ok(ready) = made else {
+        let Ok(kept) = ready_for(alloc, &mut self.shard, &write.entry, out) else {
             decline(write, Refused::NoMemory, None, out);
             return Ok(());
         };
@@ -291,8 +289,8 @@ impl<'p, F: Fronts> BaseDomain<'p, F> {
         ) {
             Ok(Found::Here) => {
                 self.next[write.session] = write.number + 1;
-                self.shard.commit(ready.kept);
-                let told = tell(&self.right, alloc, index, ready.parts, out);
+                self.shard.commit(kept);
+                let told = tell(&self.right, alloc, index, parts, out);
                 self.stopped = told.is_err();
                 answer_accepted(write, index, told, out)
             }
@@ -331,9 +329,13 @@ impl<'p, F: Fronts> BaseDomain<'p, F> {
             return Ok(());
         }
         let _table = self.plan.table(self.table);
-        match self.shard.check(&write.entry) {
-            Err(refused) => self.refuse(alloc, words, write, refused, out),
-            Ok(()) => self.accept(alloc, words, write, out),
+        match weigh(alloc, self.plan, self.table, &self.shard, &write.entry) {
+            Ok(Ok(parts)) => self.accept(alloc, words, write, parts, out),
+            Ok(Err(refused)) => self.refuse(alloc, words, write, refused, out),
+            Err(_) => {
+                decline(write, Refused::NoMemory, None, out);
+                Ok(())
+            }
         }
     }
 
@@ -345,8 +347,9 @@ impl<'p, F: Fronts> BaseDomain<'p, F> {
     /// its log has gone on without it, as the front in the reply shows; `NoMemory` where that was
     /// refused for a packet, and then the reply to a write says that it was accepted. A write comes
     /// to that only over fronts that may be refused for memory: all other room is made before its
-    /// entry is appended. After an error nothing is on the edges, and it has stopped. Cost: that of `BaseShard::check`,
-    /// `changes` and `commit` for a write, of `BaseShard::lookup` for a request.
+    /// entry is appended. After an error nothing is on the edges, and it has stopped. Cost: for a
+    /// write, that of `BaseShard::commit` and of one `BaseShard::check_changes`, or of one `check`
+    /// where the table is none of the stage; for a request, that of `BaseShard::lookup`.
     pub fn receive(
         &mut self,
         alloc: Global,

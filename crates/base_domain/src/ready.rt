@@ -1,5 +1,5 @@
 //! What the step of a write needs, made before it.
-ghost use Rattle.std.specs.Prelude.{◌≡◌, ◌++◌, ◌∷◌, [], List, None, map, length, IfOk, OnOk, IfSome};
+ghost use Rattle.std.specs.Prelude.{◌≡◌, ◌++◌, ◌∷◌, [], List, Some, None, map, length, IfOk, IfErr, OnOk, IfSome};
 ghost use Rattle.std.specs.Option.{option_map};
 ghost use Rattle.row.specs.Changes.{Turns};
 ghost use Rattle.model.specs.Entries.{change_of};
@@ -23,65 +23,58 @@ use plan::plan::Plan;
 use row::refused::Refused;
 use std::alloc::{AllocError, Global};
 
-/// What the step of a write needs: a copy of the entry, and its records for each stage shard with
-/// the room of their packets, where the table is one of the stage.
-#[derive(Drop)]
-pub(crate) struct Ready<F: Fronts> {
-    pub(crate) kept: Entry,
-    pub(crate) parts: Option<StageParts<F>>,
-}
-
-/// The records of an entry by stage shard and a copy of it, for which the shard and the outbox then
-/// have room, and the packets too.
-pub(crate) fn ready_for<F: Fronts>(
+/// With what the log refuses the entry or, where it allows it, the entry's records by stage shard
+/// and room for their packets, if the table is one of the stage. Errors: memory only. One look-up
+/// of a key; where the table is none of the stage no row is copied.
+pub(crate) fn weigh<F: Fronts>(
     alloc: Global,
     plan: &Plan,
     table: usize,
+    shard: &BaseShard,
+    entry: &Entry,
+) -> Result<Result<Option<StageParts<F>>, Refused>, AllocError>
+    requires { HasKey shard.now.key (change_of entry.now) }
+    ensures refused { IfOk result (λ r. IfErr r (λ e. refusal_over shard.now.key shard.now.limit
+        shard.now.rows shard.now.length (change_of entry.now) ≡ Some e)) }
+    ensures allowed { IfOk result (λ r. OnOk r (refusal_over shard.now.key shard.now.limit
+        shard.now.rows shard.now.length (change_of entry.now) ≡ None)) }
+    ensures parts { IfOk result (λ r. IfOk r (λ o. o ≡ option_map (λ side. parts_by side.key
+        plan.now.stages (records_at shard.now (change_of entry.now))) (side_in plan.now table))) }
+    ensures brings { IfOk result (λ r. IfOk r (λ o. IfSome o
+        (λ ps. Brings shard.now (change_of entry.now)))) }
+{
+    plan.keeps_profile();
+    let Some(side) = side_at(plan, table) else {
+        return match shard.check(entry) {
+            Ok(()) => Ok(Ok(None)),
+            Err(refused) => Ok(Err(refused)),
+        };
+    };
+    let records = match shard.check_changes(alloc, entry)? {
+        Ok(records) => records,
+        Err(refused) => return Ok(Err(refused)),
+    };
+    let by_stage = split(alloc, records, side.key(), plan.stages())?;
+    Ok(Ok(Some(StageParts::new(alloc, by_stage)?)))
+}
+
+/// A copy of the entry, for which the shard and the outbox then have room.
+pub(crate) fn ready_for<F: Fronts>(
+    alloc: Global,
     shard: &mut BaseShard,
     entry: &Entry,
     out: &mut Outbox<F>,
-) -> Result<Ready<F>, Refused>
-    requires key { HasKey shard.old.key (change_of entry.now) }
-    requires lawful { refusal_over shard.old.key shard.old.limit shard.old.rows shard.old.length
-        (change_of entry.now) ≡ None }
-    ensures kept { IfOk result (λ r. change_of r.kept ≡ change_of entry.now) }
-    ensures parts { IfOk result (λ r. r.parts ≡ option_map (λ side. parts_by side.key
-        plan.now.stages (records_at shard.old (change_of entry.now))) (side_in plan.now table)) }
-    ensures brings { IfOk result (λ r. IfSome r.parts
-        (λ ps. Brings shard.old (change_of entry.now))) }
+) -> Result<Entry, Refused>
+    requires { HasKey shard.old.key (change_of entry.now) }
+    ensures kept { IfOk result (λ e. change_of e ≡ change_of entry.now) }
     ensures room { OnOk result (HasRoom shard.new (change_of entry.now)) }
     ensures shard { shard.new ≡ record shard.old { room = shard.new.room } }
     ensures edges { OnOk result (HaveRoom out.new.edges) }
     ensures packets { packets_on out.new.edges ≡ packets_on out.old.edges }
     ensures reply { out.new.reply ≡ out.old.reply }
 {
-    let parts = parts_of(alloc, plan, table, shard, entry)?;
     let kept = entry.try_clone(alloc)?;
     out.reserve()?;
     shard.reserve(alloc, entry)?;
-    Ok(Ready { kept, parts })
-}
-
-/// The records of an entry by stage shard, and room for their packets.
-fn parts_of<F: Fronts>(
-    alloc: Global,
-    plan: &Plan,
-    table: usize,
-    shard: &BaseShard,
-    entry: &Entry,
-) -> Result<Option<StageParts<F>>, AllocError>
-    requires key { HasKey shard.now.key (change_of entry.now) }
-    requires lawful { refusal_over shard.now.key shard.now.limit shard.now.rows shard.now.length
-        (change_of entry.now) ≡ None }
-    ensures parts { IfOk result (λ o. o ≡ option_map (λ side. parts_by side.key
-        plan.now.stages (records_at shard.now (change_of entry.now))) (side_in plan.now table)) }
-    ensures brings { IfOk result (λ o. IfSome o (λ ps. Brings shard.now (change_of entry.now))) }
-{
-    plan.keeps_profile();
-    let Some(side) = side_at(plan, table) else {
-        return Ok(None);
-    };
-    let records = shard.changes(alloc, entry)?;
-    let by_stage = split(alloc, records, side.key(), plan.stages())?;
-    Ok(Some(StageParts::new(alloc, by_stage)?))
+    Ok(kept)
 }
