@@ -1,17 +1,17 @@
 //! Packets of the only base shard and of the only stage shard of notes.
-ghost use Rattle.std.specs.Prelude.{◌≡◌, [], ◌∷◌, length, None, Some, IfOk, codes, pos};
-ghost use Rattle.row.specs.Cells.{int, text};
-ghost use Rattle.plan.specs.Recipes.{notes_plan};
-ghost use Rattle.model.specs.Fronts.{LogView};
-ghost use Rattle.model.specs.Logs.{inserts};
+ghost use Rattle.std.specs.Prelude.{◌≡◌, [], length, None, Some, IfOk};
 ghost use Rattle.packet.specs.Codes.{mark_of, packet_of};
+ghost use Rattle.domain_tests.specs.Notes.{note_row, coming, no_notes, one_note, no_piece};
 
 use model::entry::Entry;
 use model::fronts::{Found, Fronts};
-use model::list::{ListFront, ListRight};
 use packet::base_packet::BasePacket;
+use packet::line::Line;
+use packet::piece::Piece;
+use packet::reader::Reader;
 use packet::request::Marker;
-use plan::plan::Plan;
+use packet::stage_packet::{Content, StagePacket};
+use plan::domain::Tag;
 use row::record::{Record, Sign};
 use row::row::Row;
 use row::value::Value;
@@ -24,7 +24,7 @@ pub const MARKER: Marker = Marker {
 
 /// A row of notes.
 pub fn note(alloc: Global) -> Result<Row, AllocError>
-    ensures { IfOk result (λ r. r ≡ int (pos 1) ∷ int (pos 7) ∷ text (codes "a") ∷ []) }
+    ensures { IfOk result (λ r. r ≡ note_row) }
 {
     let mut cells = Vec::new(alloc);
     cells.push(Value::Int(1))?;
@@ -44,15 +44,8 @@ pub fn with_marker<F: Fronts>(alloc: Global, front: F) -> BasePacket<F>
 
 /// The packet of the first note.
 pub fn with_note<F: Fronts>(alloc: Global, front: F) -> Result<BasePacket<F>, AllocError>
-    requires { F.log front ≡ record {
-      plan = notes_plan;
-      base = 0;
-      entries = inserts (int (pos 1) ∷ int (pos 7) ∷ text (codes "a") ∷ []) ∷ [];
-    } }
-    ensures { IfOk result (λ k. k ≡ packet_of 0 0 (F.log front) (record {
-      row = int (pos 1) ∷ int (pos 7) ∷ text (codes "a") ∷ [];
-      sign = Sign.Plus;
-    } ∷ []) None None) }
+    requires { F.log front ≡ one_note }
+    ensures { IfOk result (λ k. k ≡ packet_of 0 0 (F.log front) coming None None) }
 {
     let mut changes = Vec::new(alloc);
     changes.push(Record {
@@ -68,17 +61,33 @@ pub fn front_with_note<F: Fronts>(
     words: &F::Words,
     mut right: F::Right,
 ) -> Result<F, AllocError>
-    requires log { F.log (F.front right) ≡ record { plan = notes_plan; base = 0; entries = [] } }
+    requires log { F.log (F.front right) ≡ no_notes }
     requires authors { F.authors (F.front right) ≡ [] }
-    ensures { IfOk result (λ f. F.log f ≡ record {
-      plan = notes_plan;
-      base = 0;
-      entries = inserts (int (pos 1) ∷ int (pos 7) ∷ text (codes "a") ∷ []) ∷ [];
-    }) }
+    ensures { IfOk result (λ f. F.log f ≡ one_note) }
 {
     let entry = Entry::Insert(note(alloc)?);
     let Found::Here = F::append(&mut right, alloc, words, 0, 0, &entry)? else {
         return Err(AllocError);
     };
     F::of(&right, alloc)
+}
+
+/// The piece of author 7 at a front without notes.
+pub fn with_piece<F: Fronts>(alloc: Global, front: F) -> Result<StagePacket<F>, AllocError>
+    requires { F.log front ≡ no_notes }
+    ensures { IfOk result (λ x. x ≡ no_piece) }
+{
+    let mut fronts = Vec::new(alloc);
+    fronts.push(front)?;
+    let line = Line::new(fronts);
+    let from = line.lengths(alloc)?;
+    let rows = Vec::new(alloc);
+    let content = Content {
+        changes: Vec::new(alloc),
+        evicts: Vec::new(alloc),
+        piece: Some(Piece::new(Tag(1), Value::Int(7), rows)),
+        marker: None,
+    };
+    let reader = Reader { view: 0, shard: 0 };
+    Ok(StagePacket::new(0, reader, from, line, content))
 }

@@ -1,12 +1,10 @@
 //! The domain of the only stage shard of notes: what each message makes it put out, and a packet
 //! out of turn.
-ghost use Rattle.std.specs.Prelude.{◌≡◌, [], ◌∷◌, ◌<◌, length, IfOk, codes, pos};
-ghost use Rattle.row.specs.Cells.{int, text};
+ghost use Rattle.std.specs.Prelude.{◌≡◌, IfOk};
 ghost use Rattle.plan.specs.Recipes.{notes_plan};
-ghost use Rattle.model.specs.Fronts.{LogView};
-ghost use Rattle.model.specs.Logs.{inserts};
 ghost use Rattle.stage_domain.specs.Codes.{message_of};
 ghost use Rattle.stage_domain.specs.Domains.{Meets};
+ghost use Rattle.domain_tests.specs.Notes.{no_notes, one_note, AreOne, first_stage};
 
 use crate::packets::{MARKER, front_with_note, with_marker, with_note};
 use model::fronts::Fronts;
@@ -32,14 +30,8 @@ fn shard<'p, F: Fronts>(
     front: F,
 ) -> Result<StageDomain<'p, F>, AllocError>
     requires plan { plan.now ≡ notes_plan }
-    requires front { F.log front ≡ record { plan = notes_plan; base = 0; entries = [] } }
-    ensures { IfOk result (λ d. d ≡ record {
-      plan = notes_plan;
-      shard = 0;
-      line = record { plan = notes_plan; base = 0; entries = [] } ∷ [];
-      marks = [];
-      mode = Mode.Running;
-    }) }
+    requires front { F.log front ≡ no_notes }
+    ensures { IfOk result (λ d. d ≡ first_stage) }
 {
     let mut fronts = Vec::new(alloc);
     fronts.push(front)?;
@@ -77,14 +69,8 @@ fn tells<F: Fronts>(
     message: ToStage<F>,
 ) -> Result<Option<Carried>, Refused>
     requires plan { plan.now ≡ notes_plan }
-    requires front { F.log front ≡ record { plan = notes_plan; base = 0; entries = [] } }
-    requires meets { Meets F.are_one (record {
-      plan = notes_plan;
-      shard = 0;
-      line = record { plan = notes_plan; base = 0; entries = [] } ∷ [];
-      marks = [];
-      mode = Mode.Running;
-    }) (message_of message) }
+    requires front { F.log front ≡ no_notes }
+    requires meets { Meets F.are_one first_stage (message_of message) }
 {
     let mut domain: StageDomain<F> = shard(alloc, plan, front)?;
     let mut out = Edges::new(alloc, 1)?;
@@ -95,13 +81,9 @@ fn tells<F: Fronts>(
 // Whether a packet from one entry on is a gap there, and the domain has then stopped.
 fn finds_a_gap<F: Fronts>(alloc: Global, plan: &Plan, front: F, later: F) -> Result<bool, Refused>
     requires plan { plan.now ≡ notes_plan }
-    requires front { F.log front ≡ record { plan = notes_plan; base = 0; entries = [] } }
-    requires later { F.log later ≡ record {
-      plan = notes_plan;
-      base = 0;
-      entries = inserts (int (pos 1) ∷ int (pos 7) ∷ text (codes "a") ∷ []) ∷ [];
-    } }
-    requires one { (l m : LogView) → l.entries ≡ [] → F.are_one l m }
+    requires front { F.log front ≡ no_notes }
+    requires later { F.log later ≡ one_note }
+    requires one { AreOne F.are_one }
 {
     let mut domain: StageDomain<F> = shard(alloc, plan, front)?;
     let mut out = Edges::new(alloc, 1)?;
@@ -121,13 +103,9 @@ fn finds_a_gap<F: Fronts>(alloc: Global, plan: &Plan, front: F, later: F) -> Res
 // Whether each message is taken as it is to be.
 fn takes_each<F: Fronts>(alloc: Global, plan: &Plan, front: F, later: F) -> Result<bool, Refused>
     requires plan { plan.now ≡ notes_plan }
-    requires front { F.log front ≡ record { plan = notes_plan; base = 0; entries = [] } }
-    requires later { F.log later ≡ record {
-      plan = notes_plan;
-      base = 0;
-      entries = inserts (int (pos 1) ∷ int (pos 7) ∷ text (codes "a") ∷ []) ∷ [];
-    } }
-    requires one { (l m : LogView) → l.entries ≡ [] → F.are_one l m }
+    requires front { F.log front ≡ no_notes }
+    requires later { F.log later ≡ one_note }
+    requires one { AreOne F.are_one }
 {
     let source = 0;
     let packet = with_note(alloc, later.again(alloc)?)?;

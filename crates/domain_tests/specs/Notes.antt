@@ -1,0 +1,51 @@
+-- What the tests of domains speak of: the log of notes, and packets of it.
+use Rattle.std.specs.Prelude.{◌≡◌, List, [], ◌∷◌, Some, None, codes, pos}
+use Rattle.row.specs.Cells.{Cells, int, text}
+use Rattle.row.specs.declared.record.Record.{Record}
+use Rattle.row.specs.declared.record.Sign.TheVariants.{Plus}
+use Rattle.plan.specs.Recipes.{notes_plan}
+use Rattle.model.specs.Fronts.{LogView}
+use Rattle.model.specs.Logs.{inserts}
+use Rattle.packet.specs.Messages.{StagePacketView}
+use Rattle.packet.specs.declared.mode.Mode.TheVariants.{Running}
+use Rattle.stage_domain.specs.Domains.{Domain}
+use Rattle.view_domain.specs.Domains as view
+
+-- note 1 of author 7, and its coming
+abbrev pub note_row : Cells
+note_row = int (pos 1) ∷ int (pos 7) ∷ text (codes "a") ∷ []
+
+abbrev pub coming : List Record
+coming = record { row = note_row; sign = Plus } ∷ []
+
+-- the log without a note, and with the note
+abbrev pub no_notes : LogView
+no_notes = record { plan = notes_plan; base = 0; entries = [] }
+
+abbrev pub one_note : LogView
+one_note = record no_notes { entries = inserts note_row ∷ [] }
+
+-- any front of a log is known to be of one log with a front without entries
+abbrev pub AreOne : (LogView → LogView → Type 0) → Type 0
+AreOne are_one = (l m : LogView) → l.entries ≡ [] → are_one l m
+
+-- the piece of author 7, of whom there is no note
+abbrev pub no_piece : StagePacketView
+no_piece = record { plan = notes_plan; stage = 0; view = 0; shard = 0; from = [] ∷ []; to = [] ∷ []; changes = []; evicts = []; piece = Some (record { tag = 1; key = int (pos 7); rows = [] }); marker = None }
+
+-- the stage shard at the log without a note
+abbrev pub first_stage : Domain
+first_stage = record { plan = notes_plan; shard = 0; line = no_notes ∷ []; marks = []; mode = Running }
+
+-- the view shard there, with no key
+abbrev pub first_view : view.Domain
+first_view = record {
+  plan = notes_plan;
+  view = 0;
+  shard = 0;
+  cut = (no_notes ∷ []) ∷ [];
+  kept = record { sources = 1; filled = []; waiting = [] };
+  asked = 0;
+  marks = record { senders = 1; waiting = [] };
+  mode = Running;
+}
