@@ -138,10 +138,26 @@ impl BaseShard {
         self.rows.get(key_in(entry, self.key_column))
     }
 
+    /// The row of a lawful entry's key, where one is held. One look-up, but for an Insert, whose key
+    /// has no row.
+    fn find_lawful(&self, entry: &Entry) -> Option<&Row>
+        requires key { HasKey self.now.key (change_of entry.now) }
+        requires lawful { refusal_of self.now (change_of entry.now) ≡ None }
+        ensures held { is_some result ≡ is_held self.now.key self.now.rows
+            (key_of self.now.key (change_of entry.now)) }
+        ensures only { IfSome result (λ r. filter (has self.now.key
+            (key_of self.now.key (change_of entry.now))) self.now.rows ≡ r.now ∷ []) }
+    {
+        match entry {
+            Entry::Insert(_) => None,
+            Entry::Delete(_) | Entry::Update(_) => self.find(entry),
+        }
+    }
+
     /// What an entry that `check` allows changes in the rows: plus the row of an Insert, minus the
     /// row of a Delete's key, and for an Update minus the old row of its key, then plus the new
-    /// one. Errors: memory only. One look-up of a key, and a copy of each of these rows, at most
-    /// two.
+    /// one. Errors: memory only. One look-up of a key, but for an Insert, and a copy of each of these
+    /// rows, at most two.
     pub fn changes(&self, alloc: Global, entry: &Entry) -> Result<Vec<Record>, AllocError>
         requires key { HasKey self.now.key (change_of entry.now) }
         requires lawful { refusal_of self.now (change_of entry.now) ≡ None }
@@ -155,7 +171,7 @@ impl BaseShard {
             → Turns (rows_of self.now.key front) v.items
             (rows_of self.now.key (front ++ change_of entry.now ∷ []))) }
     {
-        self.records(alloc, entry, self.find(entry))
+        self.records(alloc, entry, self.find_lawful(entry))
     }
 
     /// What `check` says of the entry and, where it allows it, what `changes` does, with one
