@@ -11,7 +11,7 @@ use Rattle.protocol.specs.Events.{Event, write, try_read, want, fence, count, ev
 use Rattle.protocol.specs.WorldSteps.{Did, step, replies, rounds, raised}
 use Rattle.protocol.proofs.SampleWords.{stories, by_author, base, stage, view, goes, tries, wants}
 use Rattle.protocol.proofs.WorldSamples.{story, prelude_replies, after, counts, cut}
-use Rattle.protocol.specs.Laws.{world_after}
+use Rattle.protocol.specs.Laws.{happens, world_after}
 
 abbrev pub says : List Event → List Reply
 says es = replies (start true votes_small) es
@@ -86,7 +86,7 @@ raised_by_place = refl
 abbrev pub numbers : World → List ℕ
 numbers w = map (λ (c : Caller). c.number) (take 2 w.callers)
 
-pub all_numbered : numbers (world_after (start true votes_small) (story 1 7 ∷ story 1 7 ∷ write 0 (codes "nope") (inserts []) ∷ stop (Some (stage 0)) ∷ fence 0 ∷ tries ∷ wants ∷ count 0 by_author ∷ fence 1 ∷ [])) ≡ 4 ∷ 1 ∷ []
+pub all_numbered : numbers (world_after (start true votes_small) (map happens (story 1 7 ∷ story 1 7 ∷ write 0 (codes "nope") (inserts []) ∷ stop (Some (stage 0)) ∷ fence 0 ∷ tries ∷ wants ∷ count 0 by_author ∷ fence 1 ∷ []))) ≡ 4 ∷ 1 ∷ []
 all_numbered = refl
 
 -- ---- settle

@@ -1,26 +1,26 @@
 -- Every schedule: the replies tell of a legal history.
-use Rattle.std.proofs.Common.{Bool, List, [], ◌∷◌, ◌++◌, slice_get, slice_index_or, Some, None, refl, ap, sym, ◌∙◌, subst}
+use Rattle.std.proofs.Common.{List, [], ◌∷◌, ◌++◌, slice_get, slice_index_or, Some, None, refl, ap, sym, ◌∙◌, subst}
 use Rattle.plan.specs.Layouts.{Layout, view_named}
-use Rattle.plan.specs.Profile.{IsPlan}
 use Rattle.model.specs.Histories.{Item}
 use Rattle.model.specs.Legal.{IsLegal, most_sessions}
 use Rattle.model.specs.Refusals.{evict_refusal}
 use Rattle.protocol.specs.Worlds.{World, start, Node}
 use Rattle.protocol.specs.Events.{Event, write, try_read, want, fence, count, deliver, evict_stage, evict_view, stop, settle, Reply}
 use Rattle.protocol.specs.Theorem.{Tell, EverySchedule}
-use Rattle.protocol.specs.WorldSteps.{most_rounds, step, replies}
+use Rattle.protocol.specs.WorldSteps.{most_rounds, step, delivery, replies}
 use Rattle.protocol.specs.Edges.{wire_of}
 use mathlib.Core.List.{IsPrefix}
 use Rattle.packet.specs.Truth.{IsRun, IsBaseRun, Grows}
 use Rattle.protocol.specs.Stages.{Stage}
 use Rattle.protocol.specs.Views.{View}
-use Rattle.protocol.proofs.Wired.{Good, IsReached, Led, Three, source_logs, lines_of}
+use Rattle.protocol.proofs.Wired.{Good, Led, Three, source_logs, lines_of}
 use Rattle.protocol.proofs.Lists.{pair_at}
 use Rattle.protocol.proofs.EdgeLaws.{three_next}
 use Rattle.protocol.proofs.Start.{start_good}
 use Rattle.protocol.proofs.Writes.{Tells, write_tells}
 use Rattle.protocol.proofs.Calls.{read_tells, want_tells, count_tells, fence_tells, evicts_stage, evicts_view, stop_tells, deliver_tells, settle_tells}
-use Rattle.protocol.specs.Laws.{StagesInTurn, ViewsInTurn, world_after, EveryTurn}
+use Rattle.protocol.specs.Laws.{StagesInTurn, ViewsInTurn, Move, happens, comes, world_after, IsReached, EveryTurn}
+use Rattle.protocol.proofs.Settles.{delivers}
 
 -- one event: its reply tells of items that are allowed, and all holds of the world after it
 pub step_tells : (w : World) (past : List Event) (h : List Item) (e : Event) → Good w past h → Tells w past h e (step w e)
@@ -51,37 +51,43 @@ every_schedule by_key p g events =
     let r : IsTold p [] [] events (replies (start by_key p) events) = all_told events (start by_key p) [] [] (start_good by_key p g) in
     (r.0, (r.1, r.2))
 
--- for the code: an invariant of the world that each event keeps
-pub reached_start : (by_key : Bool) (p : Layout) → IsPlan p → IsReached (start by_key p)
-reached_start by_key p g = ([], [], start_good by_key p g)
+-- ---- packets in turn
+-- all holds of a world for some events and some history
+record IsGood (w : World) : Type 0 where
+  past : List Event
+  history : List Item
+  good : Good w past history
 
-pub reached_step : (w : World) (e : Event) → IsReached w → IsReached (step w e).world
-reached_step w e r = let t = step_tells w r.0 r.1 e r.2 in (r.0 ++ e ∷ [], r.1 ++ t.is, t.kept.good)
+moved_good : (ms : List Move) (w : World) → IsGood w → IsGood (world_after w ms)
+moved_good [] w g = g
+moved_good (happens e ∷ ms) w g =
+    let t = step_tells w g.past g.history e g.good in
+    moved_good ms (step w e).world (record { past = g.past ++ e ∷ []; history = g.history ++ t.is; good = t.kept.good })
+moved_good (comes wire ∷ ms) w g =
+    let t = delivers w g.past g.history wire g.good in
+    moved_good ms (delivery w wire).world (record { past = g.past; history = g.history ++ t.is; good = t.kept.good })
+
+reached_good : (w : World) → IsReached w → IsGood w
+reached_good w r = subst IsGood (sym r.after) (moved_good r.moves (start r.by_key r.plan) (record { past = []; history = []; good = start_good r.by_key r.plan r.good }))
 
 -- a packet that is the first for a domain that runs begins at the front that the domain holds
-stage_next : (w : World) → IsReached w → StagesInTurn w
-stage_next w r s j n k ks at runs q =
+stage_next : (w : World) → IsGood w → StagesInTurn w
+stage_next w g s j n k ks at runs q =
     let inbox = slice_index_or w.to_stage s [] in
     let t = subst (λ b. Three (Led IsBaseRun IsPrefix b) n.is.line inbox (source_logs w.plan w.bases)) runs
-    (pair_at (λ (n : Node Stage) inbox. Three (Led IsBaseRun IsPrefix n.runs) n.is.line inbox (source_logs w.plan w.bases)) w.stages w.to_stage s n [] at r.2.wired.lines) in
+    (pair_at (λ (n : Node Stage) inbox. Three (Led IsBaseRun IsPrefix n.runs) n.is.line inbox (source_logs w.plan w.bases)) w.stages w.to_stage s n [] at g.good.wired.lines) in
     let x = three_next IsBaseRun IsPrefix n.is.line inbox (source_logs w.plan w.bases) j k ks q t in
     let l = x.3 in
     record { from = x.2 ∙ ap Some (sym l.0); grows = l.1.grows }
 
-view_next : (w : World) → IsReached w → ViewsInTurn w
+view_next : (w : World) → IsGood w → ViewsInTurn w
 view_next w g r s n x xs at runs q =
     let inbox = slice_index_or w.to_view r [] in
     let t = subst (λ b. Three (Led IsRun Grows b) n.is.cut inbox (lines_of w.stages)) runs
-    (pair_at (λ (n : Node View) inbox. Three (Led IsRun Grows n.runs) n.is.cut inbox (lines_of w.stages)) w.views w.to_view r n [] at g.2.wired.cuts) in
+    (pair_at (λ (n : Node View) inbox. Three (Led IsRun Grows n.runs) n.is.cut inbox (lines_of w.stages)) w.views w.to_view r n [] at g.good.wired.cuts) in
     let k = three_next IsRun Grows n.is.cut inbox (lines_of w.stages) s x xs q t in
     let l = k.3 in
     record { from = k.2 ∙ ap Some (sym l.0); grows = l.1 }
 
-reached_after : (events : List Event) (w : World) → IsReached w → IsReached (world_after w events)
-reached_after [] w r = r
-reached_after (e ∷ es) w r = reached_after es (step w e).world (reached_step w e r)
-
 pub every_turn : EveryTurn
-every_turn by_key p g events =
-    let r = reached_after events (start by_key p) (reached_start by_key p g) in
-    (stage_next (world_after (start by_key p) events) r, view_next (world_after (start by_key p) events) r)
+every_turn w r = let g = reached_good w r in (stage_next w g, view_next w g)

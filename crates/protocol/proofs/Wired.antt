@@ -129,7 +129,3 @@ pub record Good (w : World) (past : List Event) (h : List Item) : Type 0 where
   pub wired : Wired w
   pub history : IsHistory w.plan w.bases w.callers h
   pub events : IsPast w.plan w.bases w.callers past
-
--- some events have led to the world, and have told of a history
-abbrev pub IsReached : World → Type 0
-IsReached w = (past : List Event) × (h : List Item) × Good w past h

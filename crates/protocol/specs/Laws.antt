@@ -13,8 +13,8 @@ use Rattle.protocol.specs.Views.{View, ToView, packet, want, order}
 use Rattle.protocol.specs.ViewSteps as on_view
 use Rattle.protocol.specs.Worlds.{Node, World, start}
 use Rattle.protocol.specs.Events.{Event}
-use Rattle.protocol.specs.Edges.{queue}
-use Rattle.protocol.specs.WorldSteps.{step}
+use Rattle.protocol.specs.Edges.{queue, Wire}
+use Rattle.protocol.specs.WorldSteps.{step, delivery}
 use Rattle.std.specs.List.{list_any}
 use Rattle.row.specs.Cells.{Datum, Cells, cell_at, same}
 use Rattle.packet.specs.Readers.{Reader, is_of}
@@ -42,14 +42,28 @@ StagesInTurn w = (s j : ℕ) (n : Node Stage) (k : BasePacketView) (ks : List Ba
 abbrev pub ViewsInTurn : World → Type 0
 ViewsInTurn w = (r s : ℕ) (n : Node View) (x : Sent) (xs : List Sent) → slice_get w.views r ≡ Some n → n.runs ≡ true → queue w.to_view r s ≡ x ∷ xs → IsNextSent n.is s x
 
--- the world after these events
-abbrev pub world_after : World → List Event → World
-world_after w [] = w
-world_after w (e ∷ es) = world_after (step w e).world es
+-- an event, or the delivery of the first message of one edge, of which a settle makes many
+pub data Move : Type 0 where
+  happens : Event → Move
+  comes : Wire → Move
 
--- for every plan and every schedule, with the right side by key or held in full: no packet is out of turn
+-- the world after these
+abbrev pub world_after : World → List Move → World
+world_after w [] = w
+world_after w (happens e ∷ rest) = world_after (step w e).world rest
+world_after w (comes wire ∷ rest) = world_after (delivery w wire).world rest
+
+-- events and deliveries have led to the world from the empty world of a plan, with the right side by key or held in full
+pub record IsReached (w : World) : Type 0 where
+  pub by_key : Bool
+  pub plan : Layout
+  pub good : IsPlan plan
+  pub moves : List Move
+  pub after : w ≡ world_after (start by_key plan) moves
+
+-- for every plan and every schedule no packet is out of turn
 abbrev pub EveryTurn : Type 0
-EveryTurn = (by_key : Bool) (p : Layout) → IsPlan p → (events : List Event) → StagesInTurn (world_after (start by_key p) events) × ViewsInTurn (world_after (start by_key p) events)
+EveryTurn = (w : World) → IsReached w → StagesInTurn w × ViewsInTurn w
 
 -- ---- packets of base shards
 -- each of the further entries is lawful at the front before it
