@@ -1,0 +1,7 @@
+//! What a schedule of the protocol is made of: its events and their replies, the places of domains
+//! and edges, the queue of each edge, and the sessions.
+#![tactic(auto)]
+
+pub mod event;
+pub mod queues;
+pub mod wire;
