@@ -2,6 +2,7 @@
 //! and edges, the queue of each edge, and the sessions.
 #![tactic(auto)]
 
+pub mod arguments;
 pub mod event;
 pub mod queues;
 pub mod wire;
