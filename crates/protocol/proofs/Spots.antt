@@ -170,11 +170,11 @@ range_get a (suc n) (suc k) lt = let e : a + suc k ≡ a + 1 + k = omega arith i
 abbrev pub IsIn : {X : Type 0} → X → List X → Type 0
 IsIn x xs = (n : ℕ) × (slice_get xs n ≡ Some x)
 
-in_right : {X : Type 0} (x : X) (xs ys : List X) (n : ℕ) → slice_get ys n ≡ Some x → IsIn x (xs ++ ys)
+pub in_right : {X : Type 0} (x : X) (xs ys : List X) (n : ℕ) → slice_get ys n ≡ Some x → IsIn x (xs ++ ys)
 in_right x [] ys n at = (n, at)
 in_right x (z ∷ xs) ys n at = let r = in_right x xs ys n at in (suc r.0, r.1)
 
-in_flat : {X Y : Type 0} (f : X → List Y) (y : Y) (xs : List X) (x : X) (i n : ℕ) → slice_get xs i ≡ Some x → slice_get (f x) n ≡ Some y → IsIn y (flat_map f xs)
+pub in_flat : {X Y : Type 0} (f : X → List Y) (y : Y) (xs : List X) (x : X) (i n : ℕ) → slice_get xs i ≡ Some x → slice_get (f x) n ≡ Some y → IsIn y (flat_map f xs)
 in_flat f y [] x i n at e = cc
 in_flat f y (z ∷ xs) x zero n at e = let s : z ≡ x = cc in (n, get_later (f z) (flat_map f xs) n y (ap (λ v. slice_get (f v) n) s ∙ e))
 in_flat f y (z ∷ xs) x (suc i) n at e = let r = in_flat f y xs x i n at e in in_right y (f z) (flat_map f xs) r.0 r.1

@@ -1,1 +1,3 @@
+mod Domains
+mod Images
 mod Pushes

@@ -4,5 +4,7 @@
 
 pub mod arguments;
 pub mod event;
+pub mod places;
 pub mod queues;
+mod readers;
 pub mod wire;

@@ -1,4 +1,10 @@
-//! Edges by the places of their ends.
+//! Edges and domains by the places of their ends.
+ghost use Rattle.std.specs.Prelude.{◌≡◌, ◌++◌, map, IfOk, OnOk};
+ghost use Rattle.protocol.specs.Edges.{pairs, to_base_back, to_stage_back, to_stage_from, to_view_from};
+ghost use Rattle.schedule.specs.Codes.{wire_in};
+ghost use Rattle.schedule.specs.Ways.{wire_on, wires_on};
+
+use std::alloc::{AllocError, Global};
 
 /// An edge by the places of its ends among the sources, the stage shards and the view shards. Packets
 /// go from a source to a stage shard and on to a view shard, requests go back.
@@ -16,4 +22,81 @@ pub enum Spot {
     Base(usize),
     Stage(usize),
     View(usize),
+}
+
+/// A kind of edges.
+#[derive(Clone, Copy)]
+enum Way {
+    FromSource,
+    FromStage,
+    AskStage,
+    AskSource,
+}
+
+impl Way {
+    /// The edge of this kind between domains at these places.
+    fn wire(self, from: usize, to: usize) -> Wire
+        ensures { wire_in result ≡ wire_on self from to }
+    {
+        match self {
+            Way::FromSource => Wire::FromSource {
+                source: from,
+                stage: to,
+            },
+            Way::FromStage => Wire::FromStage {
+                stage: from,
+                reader: to,
+            },
+            Way::AskStage => Wire::AskStage {
+                reader: from,
+                stage: to,
+            },
+            Way::AskSource => Wire::AskSource {
+                stage: from,
+                source: to,
+            },
+        }
+    }
+}
+
+/// All edges between so many sources, stage shards and view shards, in the order of a plan's.
+/// Errors: memory only.
+pub(crate) fn wires(
+    alloc: Global,
+    sources: usize,
+    stages: usize,
+    readers: usize,
+) -> Result<Vec<Wire>, AllocError>
+    ensures { IfOk result (λ v. map wire_in v.items ≡ pairs to_stage_from sources stages
+        ++ pairs to_view_from stages readers ++ pairs to_stage_back readers stages
+        ++ pairs to_base_back stages sources) }
+{
+    let mut out = Vec::new(alloc);
+    push_pairs(&mut out, Way::FromSource, sources, stages)?;
+    push_pairs(&mut out, Way::FromStage, stages, readers)?;
+    push_pairs(&mut out, Way::AskStage, readers, stages)?;
+    push_pairs(&mut out, Way::AskSource, stages, sources)?;
+    Ok(out)
+}
+
+/// Puts the edges from each of so many domains to each of so many behind the others.
+fn push_pairs(out: &mut Vec<Wire>, way: Way, from: usize, to: usize) -> Result<(), AllocError>
+    ensures { OnOk result (map wire_in out.new.items
+        ≡ map wire_in out.old.items ++ pairs (wire_on way) from to) }
+{
+    for place in 0..from {
+        push_wires(out, way, place, to)?;
+    }
+    Ok(())
+}
+
+/// Puts the edges from one domain to each of so many behind the others.
+fn push_wires(out: &mut Vec<Wire>, way: Way, from: usize, to: usize) -> Result<(), AllocError>
+    ensures { OnOk result (map wire_in out.new.items
+        ≡ map wire_in out.old.items ++ wires_on way from to) }
+{
+    for place in 0..to {
+        out.push(way.wire(from, place))?;
+    }
+    Ok(())
 }
