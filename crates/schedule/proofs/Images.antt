@@ -1,5 +1,5 @@
 -- Places in lists of the program's values.
-use Rattle.std.proofs.Common.{◌≡◌, ℕ, ◌+◌, Bool, List, [], ◌∷◌, ◌++◌, map, position, Option, Some, None, unwrap_or, refl, ap, ◌∙◌}
+use Rattle.std.proofs.Common.{◌≡◌, ℕ, ◌+◌, Bool, List, [], ◌∷◌, ◌++◌, map, length, position, replicate, Option, Some, None, unwrap_or, refl, ap, sym, ◌∙◌}
 use Rattle.std.specs.List.{position_or_len, range_with_len}
 use Rattle.std.proofs.lemmas.List.{length-map, map-append}
 use Rattle.plan.proofs.Ranges.{put_more}
@@ -22,3 +22,12 @@ put_image view f old now then x n before is put =
 pub or_first : (o : Option ℕ) → unwrap_or o 0 ≡ place_or o
 or_first None = refl
 or_first (Some n) = refl
+
+const_map : {X Y : Type 0} (y : Y) (xs : List X) → map (λ x. y) xs ≡ replicate (length xs) y
+const_map y [] = refl
+const_map y (x ∷ xs) = ap (λ l. y ∷ l) (const_map y xs)
+
+-- the same for each of them
+pub filled : {X Y Z : Type 0} (view : X → Z) (y : Y) (xs : List X) (zs : List Z) (out : List Y) (n : ℕ) → map view xs ≡ zs → length xs ≡ n → out ≡ replicate n y → out ≡ map (λ z. y) zs
+filled view y xs zs out n are size is =
+    is ∙ ap (λ k. replicate k y) (sym size ∙ (sym (length-map xs view) ∙ ap length are)) ∙ sym (const_map y zs)

@@ -1,3 +1,6 @@
+mod Alls
 mod Domains
 mod Images
 mod Pushes
+mod Raises
+mod Tellings

@@ -1,6 +1,6 @@
 -- A session as data, and what an acknowledgement makes of it.
-use Rattle.std.specs.Prelude.{ℕ, ◌==◌, Bool, false, nat_le, cond, List, length, Option, Some, None, is_some, slice_index_or, slice_set}
-use Rattle.std.specs.List.{list_all}
+use Rattle.std.specs.Prelude.{ℕ, ◌==◌, Bool, false, nat_le, cond, List, map, length, Option, Some, None, is_some, slice_index_or, slice_set}
+use Rattle.std.specs.List.{list_all, range_with_len}
 use Rattle.row.specs.declared.refused.Refused.TheVariants.{Behind}
 use Rattle.plan.specs.Layouts.{Layout}
 use Rattle.model.specs.Histories.{Lengths, len_at}
@@ -8,7 +8,7 @@ use Rattle.model.specs.Places.{sources, source_at}
 use Rattle.protocol.specs.Worlds.{Caller, Fence}
 use Rattle.protocol.specs.Edges.{pairs}
 use Rattle.protocol.specs.Events.{Reply, delivered, fenced, refused}
-use Rattle.protocol.specs.WorldSteps.{raised}
+use Rattle.protocol.specs.WorldSteps.{greater, raised}
 
 -- a session as the protocol has it, and for each base shard one more than the place of its last entry there
 pub record Session : Type 0 where
@@ -23,6 +23,14 @@ pub record Told : Type 0 where
 -- for stage shard s the cut holds so many entries of source j
 abbrev pub holds : Layout → List ℕ → Lengths → ℕ → ℕ → Bool
 holds p own cut s j = nat_le (slice_index_or own (source_at p j) 0) (len_at cut s j)
+
+-- it holds those of all sources
+abbrev pub holds_line : Layout → List ℕ → Lengths → ℕ → Bool
+holds_line p own cut s = list_all (λ j. holds p own cut s j) (range_with_len 0 (length (sources p)))
+
+-- the greater of two cuts at stage shard s, length by length
+abbrev pub greatest_line : Layout → Lengths → Lengths → ℕ → List ℕ
+greatest_line p c d s = map (λ j. greater (len_at c s j) (len_at d s j)) (range_with_len 0 (length (sources p)))
 
 -- the cut holds each entry of the session in a source
 abbrev pub covers : Layout → List ℕ → Lengths → Bool

@@ -3,6 +3,8 @@
 #![tactic(auto)]
 
 pub mod arguments;
+pub mod caller;
+mod cuts;
 pub mod event;
 pub mod places;
 pub mod queues;

@@ -1,0 +1,12 @@
+use Rattle.std.proofs.Common.{◌≡◌, None, length, ap, arith}
+use Rattle.packet.specs.Readers.{readers}
+use Rattle.schedule.specs.Codes.{reader_in}
+use Rattle.schedule.proofs.Images.{filled}
+use Rattle.schedule.proofs.caller.OpenFence.new.Goals as goal
+
+pub returns : goal.returns
+returns c =
+    let shards = c.readers-reader-items.result.now in
+    let size : length shards ≡ c.loop-reader._reader-index = omega (arith, c.loop-reader-test.false, c.loop-reader.auto._reader-index-end) in
+    let acks = filled reader_in None shards (readers c.args.places.now) c.loop-reader.acks.items c.loop-reader._reader-index c.readers-reader-items.ensures size c.loop-reader.invariant in
+    ap (λ l. record { number = c.args.number; acks = l }) acks
