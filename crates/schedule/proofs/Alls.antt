@@ -33,7 +33,6 @@ fails_from test a (suc n) (suc j) lt e =
 pub one_fails : (test : ℕ → Bool) (n j : ℕ) → j < n → test j ≡ false → list_all test (range_with_len 0 n) ≡ false
 one_fails test n j lt e = fails_from test 0 n j lt (let z : 0 + j ≡ j = omega arith in ap test z ∙ e)
 
--- line by line
 lines_of : (f : ℕ → ℕ → Bool) (m : ℕ) (xs : List ℕ) → list_all (λ b. b) (flat_map (λ x. map (f x) (range_with_len 0 m)) xs) ≡ list_all (λ x. list_all (λ y. f x y) (range_with_len 0 m)) xs
 lines_of f m [] = refl
 lines_of f m (x ∷ xs) =
@@ -41,5 +40,6 @@ lines_of f m (x ∷ xs) =
     ∙ (ap (λ b. b && list_all (λ b. b) (flat_map (λ x. map (f x) (range_with_len 0 m)) xs)) (list_all-map (λ b. b) (f x) (range_with_len 0 m))
     ∙ ap (λ b. list_all (λ y. f x y) (range_with_len 0 m) && b) (lines_of f m xs))
 
+-- a test of all pairs is one line by line
 pub by_lines : (f : ℕ → ℕ → Bool) (n m : ℕ) → list_all (λ b. b) (flat_map (λ x. map (f x) (range_with_len 0 m)) (range_with_len 0 n)) ≡ list_all (λ x. list_all (λ y. f x y) (range_with_len 0 m)) (range_with_len 0 n)
 by_lines f n m = lines_of f m (range_with_len 0 n)

@@ -69,7 +69,7 @@ one_is (domain.View v n) (domain.View u m) h =
     let b = both_true (v == u) (n == m) h in
     ap (λ k. domain.View k m) (sym (same_is v u b.0)) ∙ ap (λ k. domain.View v k) (sym (same_is n m b.1))
 
-pub there_had : (p : Layout) (d : DomainId) → is_there p d ≡ true → has p d ≡ true
+there_had : (p : Layout) (d : DomainId) → is_there p d ≡ true → has p d ≡ true
 there_had p d h = by (position (is_domain d) (domains p)) refl h
   where
     by : (o : Option ℕ) → position (is_domain d) (domains p) ≡ o → is_some o ≡ true → has p d ≡ true

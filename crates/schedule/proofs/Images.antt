@@ -19,6 +19,7 @@ pub put_image : {X Y : Type 0} (view : X → Y) (f : ℕ → Y) (old now then : 
 put_image view f old now then x n before is put =
     put_more f (map view old) (map view now) (map view then) n before (ap (map view) put ∙ map-append view now (x ∷ []) ∙ ap (λ y. map view now ++ y ∷ []) is)
 
+-- a place that is found, or the first
 pub or_first : (o : Option ℕ) → unwrap_or o 0 ≡ place_or o
 or_first None = refl
 or_first (Some n) = refl

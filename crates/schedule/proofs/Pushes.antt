@@ -15,6 +15,7 @@ module _ {X : Type 0} where
   pushed_suc i (suc n) (xs ∷ xss) (inbox ∷ inboxes) lt =
       ap (λ l. slice_set inbox i (slice_index_or inbox i [] ++ xs) ∷ l) (pushed_suc i n xss inboxes (omega (arith, lt)))
 
+  -- so after an append to it
   pub pushed_more : (i n : ℕ) (xss : List (List X)) (inboxes now then : List (List (List X))) (more : List X) → n < length xss → now ≡ pushed i (take n xss) inboxes → more ≡ slice_index_or xss n []
       → then ≡ with_queue now n i (queue now n i ++ more) → then ≡ pushed i (take (n + 1) xss) inboxes
   pushed_more i n xss inboxes now then more lt before is put =
@@ -35,6 +36,7 @@ module _ {X : Type 0} where
   pub rest_same : (xs ys : List X) (n : ℕ) (x : X) → drop n xs ≡ drop n ys → drop (n + 1) (slice_set xs n x) ≡ drop (n + 1) ys
   rest_same xs ys n x h = drop-set-lt (n + 1) xs n x (omega arith) ∙ sym (drop-drop 1 n xs) ∙ ap (drop 1) h ∙ drop-drop 1 n ys
 
+  -- what is on an edge
   pub packets_at : (edges : List (EdgeView X)) (n : ℕ) → (slice_index_or edges n no_edge).packets ≡ slice_index_or (packets_on edges) n []
   packets_at [] n = refl
   packets_at (e ∷ edges) zero = refl
