@@ -101,6 +101,14 @@ impl<F: Fronts> Outbox<F> {
         self.edges.take(alloc, stage)
     }
 
+    /// The packets to each stage shard, and the reply, moved out of it. It takes no memory.
+    pub fn into_parts(self) -> (Edges<BasePacket<F>>, Option<Answer<F>>)
+        ensures edges { result.0 ≡ self.edges }
+        ensures reply { result.1 ≡ self.reply }
+    {
+        (self.edges, self.reply)
+    }
+
     /// The reply, in its place; one that was there is dropped. It takes no memory.
     pub fn set_reply(&mut self, answer: Answer<F>)
         ensures { self.new ≡ record self.old { reply = Some answer } }

@@ -70,6 +70,16 @@ impl<F: Fronts> ViewOutbox<F> {
         self.ack.take()
     }
 
+    /// The requests to each stage shard, the operation and the acknowledgement, moved out of it. It
+    /// takes no memory.
+    pub fn into_parts(self) -> (Edges<Request>, Option<ShownChange<F>>, Option<Marker>)
+        ensures requests { result.0 ≡ self.requests }
+        ensures shown { result.1 ≡ self.shown }
+        ensures ack { result.2 ≡ self.ack }
+    {
+        (self.requests, self.shown, self.ack)
+    }
+
     /// Puts out requests to one stage shard, an operation and an acknowledgement. It takes no
     /// memory.
     pub(crate) fn put(
