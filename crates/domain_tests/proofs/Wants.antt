@@ -4,7 +4,6 @@ use Rattle.row.specs.Cells.{Datum}
 use Rattle.plan.specs.Layouts.{Layout}
 use Rattle.plan.specs.Recipes.{notes_plan}
 use Rattle.model.specs.Fronts.{LogView}
-use Rattle.packet.specs.Keys.{Ascends}
 use Rattle.packet.specs.Lines.{entries_of}
 use Rattle.packet.specs.Messages.{StagePacketView}
 use Rattle.packet.specs.Truth.{Pointwise}
@@ -41,5 +40,4 @@ piece_meets are_one d e out k x one first done is =
       view = ap (λ (y : StagePacketView). y.view) is ∙ sym (ap (λ (w : View). w.view) v);
       shard = ap (λ (y : StagePacketView). y.shard) is ∙ sym (ap (λ (w : View). w.shard) v);
       one = λ line at. subst (Pointwise (GoesWith are_one) line) (sym (ap (λ (y : StagePacketView). y.to) is)) (goes are_one line one (first_line e.cut line cut at));
-      evicts = subst Ascends (sym (ap (λ (y : StagePacketView). y.evicts) is)) tt;
     }

@@ -63,3 +63,7 @@ not_of_a_shard t = absurd (cc (t.told.0.shard))
 -- a piece comes alone
 pub not_with_a_piece : IsTrueStage (record (evicting []) { piece = Some (record { tag = 1; key = n 7; rows = [] }) }) → ⊥
 not_with_a_piece t = absurd (cc (t.alone.evicts))
+
+-- the keys that it evicts are in order
+pub not_out_of_order : IsTrueStage (record (evicting []) { evicts = n 8 ∷ n 7 ∷ [] }) → ⊥
+not_out_of_order t = absurd (cc (t.order.0.0))

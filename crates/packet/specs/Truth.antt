@@ -14,7 +14,7 @@ use Rattle.model.specs.Legal.{limit}
 use Rattle.model.specs.Queries.{Line, stage_rows, side_share, part, parts}
 use Rattle.packet.specs.Readers.{side_of}
 use Rattle.packet.specs.Messages.{Piece, KeyedRecord, BasePacketView, StagePacketView, Sent}
-use Rattle.packet.specs.Keys.{is_among}
+use Rattle.packet.specs.Keys.{is_among, Ascends}
 
 -- ---- fronts and lines
 -- one of these for each of those
@@ -113,10 +113,11 @@ pub record IsStillStage (x : StagePacketView) : Type 0 where
   pub changes : x.changes ≡ []
   pub evicts : x.evicts ≡ []
 
--- what a packet of a stage shard says is so, for the keys in P that it does not evict; it has no record of a key that it evicts, or of another shard
+-- what a packet of a stage shard says is so, for the keys in P that it does not evict; it evicts each key once, in order, and has no record of a key that it evicts, or of another shard
 pub record IsTrueFor (P : Datum → Type 0) (x : StagePacketView) : Type 0 where
   pub grows : Grows x.from x.to
   pub line : IsLine x.plan x.to
+  pub order : Ascends x.evicts
   pub turns : (k : Value) → P (datum_of k) → is_among x.evicts (datum_of k) ≡ false → TurnsAt x (datum_of k)
   pub told : Each (λ (c : KeyedRecord). IsTold x c.key) x.changes
   pub piece : IsStagePiece x x.piece

@@ -34,6 +34,7 @@ pub told_true : (p : Layout) (s : ℕ) (from to : Line) (records : List Record) 
 told_true p s from to records grows line turns r = record {
   grows = grows;
   line = line;
+  order = tt;
   turns = λ k of none.
       rw (changes_of_key (key_column p r.view) (view_at p r.view).shards r.shard _ of records)
       (Turns-filter (has (key_column p r.view) _) (out p (left p s from) (right p s from)) records (out p (left p s to) (right p s to)) turns);
@@ -48,6 +49,7 @@ pub marker_true : (p : Layout) (s : ℕ) (line : Line) (m : Mark) → IsLine p l
 marker_true p s line m is r = record {
   grows = line_self line;
   line = is;
+  order = tt;
   turns = λ k of none. turns_none (part p s line r.view _);
   told = tt;
   piece = tt;
@@ -60,6 +62,7 @@ pub answer_true : (p : Layout) (s : ℕ) (line : Line) (tag i j : ℕ) (k : Datu
 answer_true p s line tag i j k is = record {
   grows = line_self line;
   line = is;
+  order = tt;
   turns = λ k of none. turns_none (part p s line i _);
   told = tt;
   piece = refl;

@@ -3,7 +3,6 @@ use Rattle.std.specs.Prelude.{◌≡◌, ◌<◌, ℕ, List, Some, slice_get}
 use Rattle.row.specs.Cells.{datum_of}
 use Rattle.model.specs.Fronts.{LogView}
 use Rattle.model.specs.Logs.{Change}
-use Rattle.packet.specs.Keys.{Ascends}
 use Rattle.packet.specs.Messages.{StagePacketView}
 use Rattle.packet.specs.Truth.{Pointwise, sent_of}
 use Rattle.protocol.specs.Views.{ToView, packet, want, order}
@@ -21,7 +20,7 @@ message_of (code.Order key) = order (datum_of key)
 abbrev pub GoesWith : (LogView → LogView → Type 0) → LogView → List Change → Type 0
 GoesWith are_one l front = are_one l (record l { entries = front })
 
--- the packet is from this stage shard of the plan to this shard of the view, its fronts are of the logs of the line that is held, and it evicts each key once, in order
+-- the packet is from this stage shard of the plan to this shard of the view, and its fronts are of the logs of the line that is held
 pub record IsFrom (are_one : LogView → LogView → Type 0) (d : Domain) (s : ℕ) (x : StagePacketView) : Type 0 where
   pub plan : x.plan ≡ d.plan
   pub stage : x.stage ≡ s
@@ -29,7 +28,6 @@ pub record IsFrom (are_one : LogView → LogView → Type 0) (d : Domain) (s : �
   pub view : x.view ≡ d.view
   pub shard : x.shard ≡ d.shard
   pub one : (line : List LogView) → slice_get d.cut s ≡ Some line → Pointwise (GoesWith are_one) line x.to
-  pub evicts : Ascends x.evicts
 
 -- a packet is from there to here; of any other message nothing is asked
 abbrev pub Meets : {F W R : Type 0} → (LogView → LogView → Type 0) → Domain → Code F W R → Type 0
