@@ -20,6 +20,11 @@ pub record AnswerView (F : Type 0) : Type 0 where
   pub index : ℕ
   pub front : Option F
 
+-- the answer of these parts
+abbrev pub answer_with : {F : Type 0} → ℕ → ℕ → Change → Option Refused → ℕ → Option F → AnswerView F
+answer_with session number entry refused index front =
+    record { session = session; number = number; entry = entry; refused = refused; index = index; front = front }
+
 -- the entry stands in the front's log at the index, under its session and number
 pub record IsAccepted {F : Type 0} (log : F → LogView) (authors : F → List Author) (a : AnswerView F) (f : F) : Type 0 where
   pub entry : slice_get (log f).entries a.index ≡ Some a.entry

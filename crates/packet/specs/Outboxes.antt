@@ -9,9 +9,13 @@ pub record EdgeView (P : Type 0) : Type 0 where
   pub packets : List P
   pub room : ℕ
 
+-- an edge with these packets, and room for so many more
+abbrev pub edge_with : {P : Type 0} → List P → ℕ → EdgeView P
+edge_with packets room = record { packets = packets; room = room }
+
 -- an edge with nothing on it
 abbrev pub no_edge : {P : Type 0} → EdgeView P
-no_edge = record { packets = []; room = 0 }
+no_edge = edge_with [] 0
 
 -- the packets of each edge
 abbrev pub packets_on : {P : Type 0} → List (EdgeView P) → List (List P)

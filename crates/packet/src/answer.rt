@@ -1,7 +1,7 @@
 //! The answer to a write.
 ghost use Rattle.std.specs.Prelude.{◌≡◌};
 ghost use Rattle.model.specs.Entries.{change_of};
-ghost use Rattle.packet.specs.Answers.{IsAnswer};
+ghost use Rattle.packet.specs.Answers.{IsAnswer, answer_with};
 
 use model::entry::Entry;
 use model::fronts::Fronts;
@@ -15,23 +15,25 @@ use std::marker::Model;
 /// `Stopped`, or it was accepted by a shard that then stopped.
 #[derive(Drop)]
 pub struct Answer<F: Fronts> {
+    front: Option<F>,
     session: usize,
     number: u64,
     entry: Entry,
     refused: Option<Refused>,
     index: u64,
-    front: Option<F>,
 }
 
 impl<F: Fronts> Model for Answer<F> {
     ghost use Rattle.model.specs.Entries.{change_of};
-    ghost use Rattle.packet.specs.Answers.{AnswerView, IsAnswer};
+    ghost use Rattle.packet.specs.Answers.{AnswerView, IsAnswer, answer_with};
 
     ghost Value = { AnswerView F };
 
-    ghost view = { λ a. record { session = a.session; number = a.number; entry = change_of a.entry; refused = a.refused; index = a.index; front = a.front } };
+    ghost view = { λ a. answer_with a.session a.number (change_of a.entry) a.refused a.index
+        a.front };
 
-    ghost invariant = { λ a. IsAnswer F.log F.authors F.is_all (record { session = a.session; number = a.number; entry = change_of a.entry; refused = a.refused; index = a.index; front = a.front }) };
+    ghost invariant = { λ a. IsAnswer F.log F.authors F.is_all
+        (answer_with a.session a.number (change_of a.entry) a.refused a.index a.front) };
 }
 
 impl<F: Fronts> Answer<F> {
@@ -44,22 +46,9 @@ impl<F: Fronts> Answer<F> {
         index: u64,
         front: Option<F>,
     ) -> Answer<F>
-        requires { IsAnswer F.log F.authors F.is_all (record {
-          session = session;
-          number = number;
-          entry = change_of entry;
-          refused = refused;
-          index = index;
-          front = front;
-        }) }
-        ensures { result ≡ record {
-          session = session;
-          number = number;
-          entry = change_of entry;
-          refused = refused;
-          index = index;
-          front = front;
-        } }
+        requires { IsAnswer F.log F.authors F.is_all
+            (answer_with session number (change_of entry) refused index front) }
+        ensures { result ≡ answer_with session number (change_of entry) refused index front }
     {
         Answer {
             session,

@@ -16,12 +16,12 @@ use std::marker::Model;
 /// other, and a piece is all rows of its key.
 #[derive(Drop)]
 pub struct BasePacket<F: Fronts> {
+    marker: Option<Marker>,
     stage: usize,
     from: u64,
     to: F,
     changes: Vec<Record>,
     piece: Option<Piece>,
-    marker: Option<Marker>,
 }
 
 impl<F: Fronts> Model for BasePacket<F> {
@@ -32,9 +32,12 @@ impl<F: Fronts> Model for BasePacket<F> {
 
     ghost Value = { BasePacketView };
 
-    ghost view = { λ k. packet_of k.stage k.from (F.log k.to) k.changes.items k.piece (mark_in k.marker) };
+    ghost view = { λ k. packet_of k.stage k.from (F.log k.to) k.changes.items k.piece
+        (mark_in k.marker) };
 
-    ghost invariant = { λ k. (k.from ≤ length (F.log k.to).entries) × IsTrueBase (packet_of k.stage k.from (F.log k.to) k.changes.items k.piece (mark_in k.marker)) };
+    ghost invariant = { λ k. (k.from ≤ length (F.log k.to).entries)
+        × IsTrueBase (packet_of k.stage k.from (F.log k.to) k.changes.items k.piece
+        (mark_in k.marker)) };
 }
 
 impl<F: Fronts> BasePacket<F> {

@@ -17,11 +17,11 @@ struct Edge<P: Drop> {
 impl<P: Drop> Model for Edge<P> {
     ghost use Rattle.std.specs.Prelude.{◌-◌};
     ghost use Rattle.std.specs.Vec.{vec_len, vec_capacity};
-    ghost use Rattle.packet.specs.Outboxes.{EdgeView};
+    ghost use Rattle.packet.specs.Outboxes.{EdgeView, edge_with};
 
     ghost Value = { EdgeView P };
 
-    ghost view = { λ e. record { packets = e.packets.items; room = vec_capacity e.packets - vec_len e.packets } };
+    ghost view = { λ e. edge_with e.packets.items (vec_capacity e.packets - vec_len e.packets) };
 }
 
 impl<P: Drop> Edge<P> {

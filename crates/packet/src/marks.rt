@@ -84,16 +84,6 @@ impl Model for Marks {
 }
 
 impl Marks {
-    /// None has come from any of so many senders. Takes no memory.
-    pub fn new(alloc: Global, senders: usize) -> Marks
-        ensures { result ≡ record { senders = senders; waiting = [] } }
-    {
-        Marks {
-            senders,
-            waiting: Vec::new(alloc),
-        }
-    }
-
     /// A marker has come from a sender: the marker, where it has come from each of them now. Errors:
     /// memory only; then all is as it was. Cost: a look at each marker that waits.
     pub fn come(
@@ -112,6 +102,16 @@ impl Marks {
     {
         let at = gather(alloc, &mut self.waiting, self.senders, sender, marker)?;
         Ok(leave(&mut self.waiting, at))
+    }
+
+    /// None has come from any of so many senders. Takes no memory.
+    pub fn new(alloc: Global, senders: usize) -> Marks
+        ensures { result ≡ record { senders = senders; waiting = [] } }
+    {
+        Marks {
+            senders,
+            waiting: Vec::new(alloc),
+        }
     }
 }
 

@@ -25,8 +25,8 @@ pub struct Content {
 
 /// What a stage shard tells a shard of a view, between two lines. By its type it is true: as bags,
 /// the stage shard's part of each key at the one line with the changes of the key is its part at the
-/// other, but for the keys that it evicts; and a piece is the stage shard's part of its key. The line
-/// has a front of each source of its plan.
+/// other, but for the keys that it evicts, each once and in order; and a piece is the stage shard's
+/// part of its key. The line has a front of each source of its plan.
 #[derive(Drop)]
 pub struct StagePacket<F: Fronts> {
     stage: usize,
@@ -46,7 +46,8 @@ impl<F: Fronts> Model for StagePacket<F> {
 
     ghost view = { λ x. stage_packet_of x.stage x.reader x.from.items x.to x.content };
 
-    ghost invariant = { λ x. AreOf (plan_of x.to) x.to × IsTrueStage (stage_packet_of x.stage x.reader x.from.items x.to x.content) };
+    ghost invariant = { λ x. AreOf (plan_of x.to) x.to
+        × IsTrueStage (stage_packet_of x.stage x.reader x.from.items x.to x.content) };
 }
 
 impl<F: Fronts> StagePacket<F> {
@@ -69,27 +70,6 @@ impl<F: Fronts> StagePacket<F> {
             to,
             content,
         }
-    }
-
-    /// The stage shard that it comes from.
-    pub fn stage(&self) -> usize
-        ensures { result ≡ self.now.stage }
-    {
-        self.stage
-    }
-
-    /// The shard of a view that it goes to.
-    pub fn reader(&self) -> Reader
-        ensures { result ≡ record { view = self.now.view; shard = self.now.shard } }
-    {
-        self.reader
-    }
-
-    /// What its type says of it.
-    pub fn is_true(&self)
-        ensures { IsTrueStage self.now }
-    {
-        let _stage = self.stage;
     }
 
     /// Its parts, moved out of it.
