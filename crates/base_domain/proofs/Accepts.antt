@@ -25,13 +25,14 @@ use Rattle.packet.specs.Outboxes.{OutboxView, packets_on}
 use Rattle.packet.specs.Readers.{side_in, side_of}
 use Rattle.packet.specs.Split.{parts_by}
 use Rattle.packet.specs.Truth.{IsTrueBase}
-use Rattle.protocol.specs.Bases.{write, accepted, next_of}
-use Rattle.protocol.specs.BaseSteps.{appended, entry_packet, to_stages}
+use Rattle.protocol.specs.Bases.{write, accepted, declined, next_of}
+use Rattle.protocol.specs.BaseSteps.{appended, entry_packet, quiet, step, to_stages}
 use Rattle.base_domain.specs.Codes.{answer_of, base_of, write_of}
 use Rattle.base_domain.specs.declared.message.Write.{Write}
 use Rattle.base_domain.specs.Domains.{Domain, HoldsTruth}
 use Rattle.base_domain.specs.Received.{Goes, IsFor, base_at, refusal_at}
 use Rattle.base_domain.specs.Told.{Brings, IsTurn, part_packet, parts_in, records_in, told}
+use Rattle.base_domain.proofs.Arms.{step_refused, step_allowed}
 use Rattle.base_domain.proofs.Entries.{split_by, split_count, IsNextOf, part_is_true, told_entry}
 use Rattle.base_domain.proofs.Numbers.{next_more}
 use Rattle.model.proofs.Numbers.{absent, below_next}
@@ -82,6 +83,17 @@ module _ (p : Layout) (table : ℕ) (l : LogView) (authors : List Author) (sh : 
 
   pub next_is : (s : ℕ) → s < length next → slice_index_or next s 0 ≡ next_of s authors
   next_is s place = h.numbers s place
+
+  -- which arm of the step a write takes that was weighed
+  pub refused_step : (s m : ℕ) (e : Change) (r : Refused) → s < length next → slice_index_or next s 0 ≤ m → refusal_over sh.key sh.limit sh.rows sh.length e ≡ Some r → step (base_of l authors) (write s m e) ≡ quiet (base_of l authors) (Some (declined r))
+  refused_step s m e r place le is =
+      let n = h.numbers s place in
+      step_refused (base_of l authors) s m e r (omega (arith, n, le)) (sym (over_shard e) ∙ is)
+
+  pub allowed_step : (s m : ℕ) (e : Change) → s < length next → slice_index_or next s 0 ≤ m → refusal_over sh.key sh.limit sh.rows sh.length e ≡ None → step (base_of l authors) (write s m e) ≡ appended (base_of l authors) s m e
+  allowed_step s m e place le is =
+      let n = h.numbers s place in
+      step_allowed (base_of l authors) s m e (omega (arith, n, le)) (sym (over_shard e) ∙ is)
 
   -- with the entry
   pub truth_next : (new : Shard) (m : LogView) (who : List Author) (s n : ℕ) (e : Change) → m ≡ with_entry l e → who ≡ with_author authors s n → IsAt new (l.entries ++ e ∷ []) → new.key ≡ sh.key → new.limit ≡ sh.limit → s < length next → next_of s authors ≤ n

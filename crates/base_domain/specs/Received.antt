@@ -12,7 +12,7 @@ use Rattle.model.specs.Refusals.{refusal}
 use Rattle.model.specs.Fronts.{LogView, IsLonger}
 use Rattle.packet.specs.Messages.{none_of}
 use Rattle.packet.specs.Answers.{AnswerView}
-use Rattle.packet.specs.Outboxes.{OutboxView, packets_on}
+use Rattle.packet.specs.Outboxes.{IsClear, OutboxView, packets_on}
 use Rattle.protocol.specs.Bases.{Base, ToBase, write, request, marker, Verdict, accepted, declined, Done}
 use Rattle.base_domain.specs.Codes.{base_of}
 use Rattle.base_domain.specs.Domains.{Domain}
@@ -68,6 +68,12 @@ pub record IsRefused {F : Type 0} (m : ToBase) (old : Domain F) (out : OutboxVie
   pub same : new ≡ old
   pub answer : IsAnswered m NoMemory out
   pub reply : verdict_of out.reply ≡ Some (declined NoMemory)
+
+-- it runs, and the outbox is clear and has an edge to each stage shard
+pub record IsReady {F : Type 0} (log : F → LogView) (d : Domain F) (out : OutboxView F) : Type 0 where
+  pub clear : IsClear out
+  pub edges : length out.edges ≡ (log d.front).plan.stages
+  pub running : d.stopped ≡ false
 
 -- it is still that of its base shard and plan, for as many sessions
 pub record Stays {F : Type 0} (log : F → LogView) (old new : Domain F) : Type 0 where

@@ -4,7 +4,7 @@ ghost use Rattle.model.specs.Entries.{change_of};
 ghost use Rattle.packet.specs.Messages.{none_of};
 ghost use Rattle.packet.specs.Outboxes.{IsClear, packets_on};
 ghost use Rattle.std.specs.List.{range_with_len};
-ghost use Rattle.base_domain.specs.Received.{Fails, Goes, IsAnswered, IsCutShort, IsDone, IsFor, IsWrite, Stays, base_at, refusal_at};
+ghost use Rattle.base_domain.specs.Received.{Fails, Goes, IsAnswered, IsCutShort, IsDone, IsFor, IsReady, IsWrite, Stays, base_at, refusal_at};
 ghost use Rattle.packet.specs.Codes.{mark_of};
 ghost use Rattle.protocol.specs.Bases.{declined, next_of, request, marker};
 ghost use Rattle.model.specs.Places.{layout_of, table_of};
@@ -50,7 +50,8 @@ impl<'p, F: Fronts> Model for BaseDomain<'p, F> {
 
     ghost view = { λ d. record { front = F.front d.right; next = d.next.items; stopped = d.stopped } };
 
-    ghost invariant = { λ d. HoldsTruth d.plan.now d.table (F.log (F.front d.right)) (F.authors (F.front d.right)) d.shard d.next.items };
+    ghost invariant = { λ d. HoldsTruth d.plan.now d.table (F.log (F.front d.right))
+        (F.authors (F.front d.right)) d.shard d.next.items };
 }
 
 impl<'p, F: Fronts> BaseDomain<'p, F> {
@@ -109,10 +110,8 @@ impl<'p, F: Fronts> BaseDomain<'p, F> {
         ask: Request,
         out: &mut Outbox<F>,
     ) -> Result<(), Refused>
-        requires ready { IsClear out.old }
-        requires edges { length out.old.edges ≡ (F.log self.old.front).plan.stages }
+        requires ready { IsReady F.log self.old out.old }
         requires stage { stage < length out.old.edges }
-        requires running { self.old.stopped ≡ false }
         ensures done { OnOk result (IsDone F.log F.authors (request stage ask) self.old
             (step (base_at F.log F.authors self.old) (request stage ask)) out.new self.new) }
         ensures only { IfErr result (λ e. e ≡ Refused.NoMemory) }
@@ -145,9 +144,7 @@ impl<'p, F: Fronts> BaseDomain<'p, F> {
         mark: Marker,
         out: &mut Outbox<F>,
     ) -> Result<(), Refused>
-        requires ready { IsClear out.old }
-        requires edges { length out.old.edges ≡ (F.log self.old.front).plan.stages }
-        requires running { self.old.stopped ≡ false }
+        requires ready { IsReady F.log self.old out.old }
         ensures done { OnOk result (IsDone F.log F.authors (marker (mark_of mark)) self.old
             (step (base_at F.log F.authors self.old) (marker (mark_of mark))) out.new self.new) }
         ensures only { IfErr result (λ e. e ≡ Refused.NoMemory) }
@@ -207,9 +204,7 @@ impl<'p, F: Fronts> BaseDomain<'p, F> {
         refused: Refused,
         out: &mut Outbox<F>,
     ) -> Result<(), Refused>
-        requires ready { IsClear out.old }
-        requires edges { length out.old.edges ≡ (F.log self.old.front).plan.stages }
-        requires running { self.old.stopped ≡ false }
+        requires ready { IsReady F.log self.old out.old }
         requires place { write.session < length self.old.next }
         requires rises { next_of write.session (F.authors self.old.front) ≤ write.number }
         requires why { refusal_at (F.log self.old.front) (change_of write.entry) ≡ Some refused }
@@ -226,6 +221,10 @@ impl<'p, F: Fronts> BaseDomain<'p, F> {
             return Ok(());
         };
         match front.look(alloc, words) {
+            Err(_) => {
+                decline(write, Refused::NoMemory, None, out);
+                Ok(())
+            }
             Ok(Found::Here) => {
                 answer(write, Some(refused), 0, Some(front), out);
                 Ok(())
@@ -234,10 +233,6 @@ impl<'p, F: Fronts> BaseDomain<'p, F> {
                 self.stopped = true;
                 decline(write, Refused::Stopped, Some(longer), out);
                 Err(Refused::Stopped)
-            }
-            Err(_) => {
-                decline(write, Refused::NoMemory, None, out);
-                Ok(())
             }
         }
     }
@@ -254,9 +249,7 @@ impl<'p, F: Fronts> BaseDomain<'p, F> {
         parts: Option<StageParts<F>>,
         out: &mut Outbox<F>,
     ) -> Result<(), Refused>
-        requires ready { IsClear out.old }
-        requires edges { length out.old.edges ≡ (F.log self.old.front).plan.stages }
-        requires running { self.old.stopped ≡ false }
+        requires ready { IsReady F.log self.old out.old }
         requires of { IsFor (F.log self.old.front) (length self.old.next) (write_of write) }
         requires parts { parts ≡ parts_in (F.log self.old.front) (change_of write.entry) }
         requires turn { IfSome parts (λ ps. IsTurn (F.log self.old.front)
@@ -310,13 +303,11 @@ impl<'p, F: Fronts> BaseDomain<'p, F> {
     fn write(
         &mut self,
         alloc: Global,
-        words: &F::Words,
         write: Write,
+        words: &F::Words,
         out: &mut Outbox<F>,
     ) -> Result<(), Refused>
-        requires ready { IsClear out.old }
-        requires edges { length out.old.edges ≡ (F.log self.old.front).plan.stages }
-        requires running { self.old.stopped ≡ false }
+        requires ready { IsReady F.log self.old out.old }
         requires of { IsFor (F.log self.old.front) (length self.old.next) (write_of write) }
         ensures done { OnOk result (Goes F.log F.authors (write_of write) self.old
             (step (base_at F.log F.authors self.old) (write_of write)) out.new self.new) }
@@ -329,7 +320,7 @@ impl<'p, F: Fronts> BaseDomain<'p, F> {
             return Ok(());
         }
         let _table = self.plan.table(self.table);
-        match weigh(alloc, self.plan, self.table, &self.shard, &write.entry) {
+        match weigh(alloc, &self.shard, &write.entry, self.plan, self.table) {
             Ok(Ok(parts)) => self.accept(alloc, words, write, parts, out),
             Ok(Err(refused)) => self.refuse(alloc, words, write, refused, out),
             Err(_) => {
@@ -377,7 +368,7 @@ impl<'p, F: Fronts> BaseDomain<'p, F> {
             return Err(Refused::Stopped);
         }
         match message {
-            ToBase::Write(write) => self.write(alloc, words, write, out),
+            ToBase::Write(write) => self.write(alloc, write, words, out),
             ToBase::Request { stage, request } => self.answer_request(alloc, stage, request, out),
             ToBase::Marker(marker) => self.pass_marker(alloc, marker, out),
         }

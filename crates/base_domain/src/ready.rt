@@ -28,10 +28,10 @@ use std::alloc::{AllocError, Global};
 /// of a key; where the table is none of the stage no row is copied.
 pub(crate) fn weigh<F: Fronts>(
     alloc: Global,
-    plan: &Plan,
-    table: usize,
     shard: &BaseShard,
     entry: &Entry,
+    plan: &Plan,
+    table: usize,
 ) -> Result<Result<Option<StageParts<F>>, Refused>, AllocError>
     requires { HasKey shard.now.key (change_of entry.now) }
     ensures refused { IfOk result (λ r. IfErr r (λ e. refusal_over shard.now.key shard.now.limit

@@ -9,7 +9,7 @@ use Rattle.base_domain.proofs.Accepts.{over_shard, allows, truth_next, parts_tru
 use Rattle.base_domain.proofs.base_domain.BaseDomain.accept.Goals as goal
 
 pub decline-requires-clause-clear : goal.decline-requires-clause-clear
-decline-requires-clause-clear g c = still_clear _ _ c.ready_for.ensures.packets c.requires.ready.packets
+decline-requires-clause-clear g c = still_clear _ _ c.ready_for.ensures.packets c.requires.ready.clear.packets
 
 pub append-requires : goal.append-requires
 append-requires g c =
@@ -26,11 +26,11 @@ commit-requires-clause-lawful g c =
     ∙ (over_shard _ _ _ _ c.self.inside.shard c.self.inside.next.items c.self.invariant _ ∙ free)
 
 pub tell-told-requires-clause-clear : goal.tell-told-requires-clause-clear
-tell-told-requires-clause-clear g c = still_clear _ _ c.ready_for.ensures.packets c.requires.ready.packets
+tell-told-requires-clause-clear g c = still_clear _ _ c.ready_for.ensures.packets c.requires.ready.clear.packets
 
 pub tell-told-requires-clause-count : goal.tell-told-requires-clause-count
 tell-told-requires-clause-count g c =
-    let edges = rw (← c.self.view_is) at c.requires.edges in
+    let edges = rw (← c.self.view_is) at c.requires.ready.edges in
     let parts = rw (← c.self.view_is) at c.requires.parts in
     parts_count (g.F.Fronts.log (g.F.Fronts.front c.self.inside.right)) (g.F.Fronts.authors (g.F.Fronts.front c.self.inside.right)) c.args.parts (change_of c.args.write.entry) (length c.ready_for.new.out.edges) parts
     (same_count _ _ c.ready_for.ensures.packets ∙ edges)
@@ -63,16 +63,16 @@ invariant_of-self-in-Ok-Here g c =
     (ap (λ (s : Shard). s.key) c.commit.ensures.shard ∙ ap (λ (s : Shard). s.key) s) (ap (λ (s : Shard). s.limit) c.commit.ensures.shard ∙ ap (λ (s : Shard). s.limit) s) of.0 rises
 
 pub decline-requires-in-Ok-Moved-clause-clear : goal.decline-requires-in-Ok-Moved-clause-clear
-decline-requires-in-Ok-Moved-clause-clear g c = still_clear _ _ c.ready_for.ensures.packets c.requires.ready.packets
+decline-requires-in-Ok-Moved-clause-clear g c = still_clear _ _ c.ready_for.ensures.packets c.requires.ready.clear.packets
 
 pub decline-requires-in-Err-clause-clear : goal.decline-requires-in-Err-clause-clear
-decline-requires-in-Err-clause-clear g c = still_clear _ _ c.ready_for.ensures.packets c.requires.ready.packets
+decline-requires-in-Err-clause-clear g c = still_clear _ _ c.ready_for.ensures.packets c.requires.ready.clear.packets
 
 pub returns-in-Ok-Here-clause-done : goal.returns-in-Ok-Here-clause-done
 returns-in-Ok-Here-clause-done g c =
     let here = rw (c.in-Ok-Here.field-0-is) at c.in-Ok-Here.ensures.here in
     let author = rw (c.in-Ok-Here.field-0-is) at c.in-Ok-Here.ensures.author in
-    let edges = rw (← c.self.view_is) at c.requires.edges in
+    let edges = rw (← c.self.view_is) at c.requires.ready.edges in
     let parts = rw (← c.self.view_is) at c.requires.parts in
     let at = c.len-index.ensures ∙ ap (λ (s : Shard). s.length) c.ready_for.ensures.shard ∙ c.self.invariant.at.counts in
     rw (← c.self.view_is) (done_told g.F.Fronts.log g.F.Fronts.authors c.args.write _ _ c.tell-told.result c.answer_accepted.result c.tell-told.new.out c.answer_accepted.new.out c.len-index.result _ c.answer_accepted.ensures.ok c.answer_accepted.ensures.err c.tell-told.ensures.front c.tell-told.ensures.sent here author at

@@ -12,5 +12,5 @@ returns-then-is_none-clause-done g c =
     let log = g.F.Fronts.log c.args.self.now.front in
     let none : c.side_at.result ≡ None = search rules in
     let side : side_of log.plan log.base ≡ None = rw (← c.self.view_is) (no_side _ c.side_at.result _ c.self.inside.plan.now c.self.inside.table _ none c.side_at.ensures c.self.invariant.plan c.self.invariant.own) in
-    silent_done g.F.Fronts.log g.F.Fronts.authors (marker (mark_of c.args.mark)) c.args.self.now c.args.out.now _ c.requires.ready.reply
-    (none_sent log.plan c.args.out.now.edges (side_of log.plan log.base) (λ side s. still (base_at g.F.Fronts.log g.F.Fronts.authors c.args.self.now) s None (Some (mark_of c.args.mark))) side c.requires.edges c.requires.ready.packets) c.requires.running
+    silent_done g.F.Fronts.log g.F.Fronts.authors (marker (mark_of c.args.mark)) c.args.self.now c.args.out.now _ c.requires.ready.clear.reply
+    (none_sent log.plan c.args.out.now.edges (side_of log.plan log.base) (λ side s. still (base_at g.F.Fronts.log g.F.Fronts.authors c.args.self.now) s None (Some (mark_of c.args.mark))) side c.requires.ready.edges c.requires.ready.clear.packets) c.requires.ready.running

@@ -16,5 +16,5 @@ pub returns-in-Ok-Here-clause-done : goal.returns-in-Ok-Here-clause-done
 returns-in-Ok-Here-clause-done g c =
     let front = g.F.Fronts.front c.self.inside.right in
     let is : g.F.Fronts.front c.self.inside.right ≡ c.args.self.now.front = ap (λ (d : Domain g.row.F.Denot). d.front) c.self.view_is in
-    inl (refused_done g.F.Fronts.log g.F.Fronts.authors c.args.write c.args.refused c.args.self.now c.look.new.self c.args.out.now c.answer.new.out c.answer.ensures c.requires.ready.packets c.requires.edges
-    (c.in-Ok-Here.ensures.log.0 ∙ c.in-Ok.ensures.same.0 ∙ ap g.F.Fronts.log is) (c.in-Ok-Here.ensures.log.1 ∙ c.in-Ok.ensures.same.1 ∙ ap g.F.Fronts.authors is) c.requires.running)
+    inl (refused_done g.F.Fronts.log g.F.Fronts.authors c.args.write c.args.refused c.args.self.now c.look.new.self c.args.out.now c.answer.new.out c.answer.ensures c.requires.ready.clear.packets c.requires.ready.edges
+    (c.in-Ok-Here.ensures.log.0 ∙ c.in-Ok.ensures.same.0 ∙ ap g.F.Fronts.log is) (c.in-Ok-Here.ensures.log.1 ∙ c.in-Ok.ensures.same.1 ∙ ap g.F.Fronts.authors is) c.requires.ready.running)
