@@ -87,6 +87,12 @@ pub record IsDone (d : Done) (out : List (EdgeView StagePacketView)) (new : Doma
 abbrev pub IsSilent : List (EdgeView StagePacketView) → Type 0
 IsSilent out = packets_on out ≡ none_of out
 
+-- it runs, and the edges are clear, one to each view shard
+pub record IsReady (d : Domain) (out : List (EdgeView StagePacketView)) : Type 0 where
+  pub clear : IsSilent out
+  pub edges : length out ≡ length (readers d.plan)
+  pub running : d.mode ≡ mode.Running
+
 -- the same, but that it has stopped
 abbrev pub stopped : Domain → Domain
 stopped d = record d { mode = mode.Stopped }

@@ -3,10 +3,10 @@ ghost use Rattle.std.specs.Prelude.{◌≡◌, List, ◌∷◌, Some, None, leng
 ghost use Rattle.row.specs.declared.record.Record.{Record as RecordView};
 ghost use Rattle.packet.specs.Lines.{AreOf, entries_of};
 ghost use Rattle.packet.specs.Messages.{none_of};
+ghost use Rattle.stage_domain.specs.Domains.{HoldsRows, IsFrom};
 ghost use Rattle.packet.specs.Outboxes.{packets_on};
 ghost use Rattle.packet.specs.Readers.{readers};
 ghost use Rattle.packet.specs.Truth.{IsLine};
-ghost use Rattle.stage_domain.specs.Domains.{HoldsRows, IsFrom};
 ghost use Rattle.stage_domain.specs.Sides.{source_side};
 ghost use Rattle.stage_domain.specs.Told.{AreTold, told};
 

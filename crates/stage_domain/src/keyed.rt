@@ -37,7 +37,10 @@ fn keyed(
     signed: &Record,
 ) -> Result<Keyed, AllocError>
     requires { has_shard column shards shard signed.now.row ≡ true }
-    ensures { IfOk result (λ c. c ≡ record { key = cell_at signed.now.row column; change = signed.now }) }
+    ensures { IfOk result (λ c. c ≡ record {
+      key = cell_at signed.now.row column;
+      change = signed.now;
+    }) }
 {
     let key = signed.row.cell(column).try_clone(alloc)?;
     Ok(Keyed::new(key, signed.try_clone(alloc)?))

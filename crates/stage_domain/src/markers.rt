@@ -25,10 +25,10 @@ use std::alloc::Global;
 /// `NoMemory` leaves all edges clear.
 pub(crate) fn take_marker<F: Fronts>(
     alloc: Global,
+    marks: &mut Marks,
     plan: &Plan,
     stage: usize,
     line: &Line<F>,
-    marks: &mut Marks,
     source: usize,
     marker: Marker,
     out: &mut Edges<StagePacket<F>>,

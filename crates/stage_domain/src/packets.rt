@@ -66,7 +66,7 @@ fn push_view<F: Fronts>(
 {
     for shard in 0..plan.view(view).shards() {
         let reader = Reader { view, shard };
-        let packet = packet_to(alloc, plan, stage, reader, from, to, records, marker)?;
+        let packet = packet_to(alloc, plan, stage, from, to, reader, records, marker)?;
         all.push(packet)?;
     }
     Ok(())
@@ -77,9 +77,9 @@ fn packet_to<F: Fronts>(
     alloc: Global,
     plan: &Plan,
     stage: usize,
-    reader: Reader,
     from: &Line<F>,
     to: &Line<F>,
+    reader: Reader,
     records: &[Record],
     marker: Option<Marker>,
 ) -> Result<StagePacket<F>, AllocError>

@@ -1,17 +1,16 @@
 //! One stage shard over its line of fronts.
 ghost use Rattle.std.specs.Prelude.{◌≡◌, ◌≢◌, ◌<◌, Err, [], true, false, None, Some, length, slice_get, IfOk, OnOk, OnErr, IfErr, IsTrue, ◌↔◌};
 ghost use Rattle.row.specs.Bags.{Each};
+ghost use Rattle.packet.specs.Lines.{AreOf, entries_of};
 ghost use Rattle.model.specs.Fronts.{LogView};
 ghost use Rattle.packet.specs.Codes.{mark_of};
-ghost use Rattle.packet.specs.Lines.{AreOf, entries_of};
+ghost use Rattle.protocol.specs.Stages.{packet, request};
 ghost use Rattle.packet.specs.Messages.{none_of};
 ghost use Rattle.packet.specs.Outboxes.{packets_on};
+ghost use Rattle.stage_domain.specs.Domains.{Fails, IsDone, IsNext, IsReady, IsSilent, Meets, stage_of, stopped};
 ghost use Rattle.packet.specs.Readers.{readers};
-ghost use Rattle.packet.specs.Truth.{IsLine};
-ghost use Rattle.protocol.specs.Stages.{packet, request};
 ghost use Rattle.protocol.specs.StageSteps.{step};
 ghost use Rattle.stage_domain.specs.Codes.{message_of};
-ghost use Rattle.stage_domain.specs.Domains.{Fails, IsDone, IsNext, IsSilent, Meets, stage_of, stopped};
 
 use crate::answers::answer_request;
 use crate::entries::take_entry;
@@ -47,7 +46,13 @@ impl<'p, F: Fronts> Model for StageDomain<'p, F> {
 
     ghost Value = { Domain };
 
-    ghost view = { λ d. record { plan = d.plan.now; shard = d.shard; line = d.line; marks = d.marks.waiting; mode = d.mode } };
+    ghost view = { λ d. record {
+      plan = d.plan.now;
+      shard = d.shard;
+      line = d.line;
+      marks = d.marks.waiting;
+      mode = d.mode;
+    } };
 
     ghost invariant = { λ d. HoldsTruth d.plan.now d.shard d.line d.rows d.marks d.mode };
 }
@@ -81,15 +86,6 @@ impl<'p, F: Fronts> StageDomain<'p, F> {
             marks,
             mode: Mode::Running,
         })
-    }
-
-    /// Its line has a front of each source of the plan, whose entries fit their tables. Does nothing:
-    /// a caller learns it.
-    pub fn keeps_line(&self)
-        ensures of { AreOf self.now.plan self.now.line }
-        ensures fronts { IsLine self.now.plan (entries_of self.now.line) }
-    {
-        let _shard = self.shard;
     }
 
     /// Whether it runs, has stopped, or is broken.
@@ -165,9 +161,7 @@ impl<'p, F: Fronts> StageDomain<'p, F> {
         ask: Request,
         out: &mut Edges<StagePacket<F>>,
     ) -> Result<(), Refused>
-        requires running { self.old.mode ≡ Mode.Running }
-        requires clear { packets_on out.old ≡ none_of out.old }
-        requires edges { length out.old ≡ length (readers self.old.plan) }
+        requires ready { IsReady self.old out.old }
         requires meets { Meets F.are_one self.old (request ask) }
         ensures done { OnOk result (IsDone (step (stage_of self.old) (request ask))
             out.new self.new) }
@@ -191,9 +185,7 @@ impl<'p, F: Fronts> StageDomain<'p, F> {
         next: BasePacket<F>,
         out: &mut Edges<StagePacket<F>>,
     ) -> Result<(), Refused>
-        requires running { self.old.mode ≡ Mode.Running }
-        requires clear { packets_on out.old ≡ none_of out.old }
-        requires edges { length out.old ≡ length (readers self.old.plan) }
+        requires ready { IsReady self.old out.old }
         requires meets { Meets F.are_one self.old (packet source next) }
         ensures done { OnOk result (IsDone (step (stage_of self.old) (packet source next))
             out.new self.new) }
@@ -211,21 +203,52 @@ impl<'p, F: Fronts> StageDomain<'p, F> {
         }
         match next.marker() {
             Some(marker) => self.pass_marker(alloc, source, next, marker, out),
-            None => self.pass_entry(alloc, source, next, out),
+            None => self.pass_entry(next, alloc, source, out),
         }
+    }
+
+    /// Takes a packet with a marker.
+    fn pass_marker(
+        &mut self,
+        alloc: Global,
+        source: usize,
+        next: BasePacket<F>,
+        marker: Marker,
+        out: &mut Edges<StagePacket<F>>,
+    ) -> Result<(), Refused>
+        requires ready { IsReady self.old out.old }
+        requires meets { Meets F.are_one self.old (packet source next) }
+        requires piece { next.piece ≡ None }
+        requires marker { next.marker ≡ Some (mark_of marker) }
+        ensures edges { length out.new ≡ length out.old }
+        ensures unsent { OnErr result (IsSilent out.new) }
+        ensures done { OnOk result (IsDone (step (stage_of self.old) (packet source next))
+            out.new self.new) }
+        ensures refused { IfErr result (λ e. Fails self.old (packet source next) e self.new) }
+    {
+        let sent = take_marker(
+            alloc,
+            &mut self.marks,
+            self.plan,
+            self.shard,
+            &self.line,
+            source,
+            marker,
+            out,
+        );
+        self.mode = mode_after(&sent);
+        sent
     }
 
     /// Takes the packet of an entry.
     fn pass_entry(
         &mut self,
+        next: BasePacket<F>,
         alloc: Global,
         source: usize,
-        next: BasePacket<F>,
         out: &mut Edges<StagePacket<F>>,
     ) -> Result<(), Refused>
-        requires running { self.old.mode ≡ Mode.Running }
-        requires clear { packets_on out.old ≡ none_of out.old }
-        requires edges { length out.old ≡ length (readers self.old.plan) }
+        requires ready { IsReady self.old out.old }
         requires meets { Meets F.are_one self.old (packet source next) }
         requires next { IsNext self.old (packet source next) }
         requires piece { next.piece ≡ None }
@@ -244,41 +267,6 @@ impl<'p, F: Fronts> StageDomain<'p, F> {
             &mut self.line,
             source,
             next,
-            out,
-        );
-        self.mode = mode_after(&sent);
-        sent
-    }
-
-    /// Takes a packet with a marker.
-    fn pass_marker(
-        &mut self,
-        alloc: Global,
-        source: usize,
-        next: BasePacket<F>,
-        marker: Marker,
-        out: &mut Edges<StagePacket<F>>,
-    ) -> Result<(), Refused>
-        requires running { self.old.mode ≡ Mode.Running }
-        requires clear { packets_on out.old ≡ none_of out.old }
-        requires edges { length out.old ≡ length (readers self.old.plan) }
-        requires meets { Meets F.are_one self.old (packet source next) }
-        requires piece { next.piece ≡ None }
-        requires marker { next.marker ≡ Some (mark_of marker) }
-        ensures done { OnOk result (IsDone (step (stage_of self.old) (packet source next))
-            out.new self.new) }
-        ensures refused { IfErr result (λ e. Fails self.old (packet source next) e self.new) }
-        ensures unsent { OnErr result (IsSilent out.new) }
-        ensures edges { length out.new ≡ length out.old }
-    {
-        let sent = take_marker(
-            alloc,
-            self.plan,
-            self.shard,
-            &self.line,
-            &mut self.marks,
-            source,
-            marker,
             out,
         );
         self.mode = mode_after(&sent);
