@@ -234,6 +234,16 @@ module _ (d : Domain) (s : ℕ) (x : StagePacketView) (is_plan : x.plan ≡ d.pl
   done_of y out new e h = subst (λ (z : StagePacketView). IsDone (sent_by s (sent_of z)) (packet_taken (view_of d) s (sent_of z)) d out new) (sym e) h
 
 -- ---- in the call
+-- what is known of a packet that is taken
+pub record IsTaken (d : Domain) (s : ℕ) (x : StagePacketView) : Type 0 where
+  pub plan : x.plan ≡ d.plan
+  pub stage : x.stage ≡ s
+  pub view : x.view ≡ d.view
+  pub shard : x.shard ≡ d.shard
+  pub holds : HoldsTruth d
+  pub truth : IsTrueStage x
+  pub next : slice_get (lines_of d.cut) s ≡ Some x.from
+
 pub got : {X : Type 0} (xs : List X) (i : ℕ) (x : X) → i < length xs → x ≡ get_or xs i x → slice_get xs i ≡ Some x
 got [] i x lt h = absurd (omega (arith, lt))
 got (y ∷ ys) zero x lt h = ap Some (sym h)
@@ -254,6 +264,20 @@ module _ (are_one : LogView → LogView → Type 0) (d : Domain) (s : ℕ) (x : 
       let e : Some (entries_of held) ≡ Some x.from = sym (get_map entries_of d.cut s held here) ∙ next in
       let same_line : entries_of held ≡ x.from = cc in
       absurd (true≢false (sym (never (sym from ∙ sym same_line))))
+
+  -- of the packet, by its parts, where it starts at the line that is held
+  pub taken : (y : StagePacketView) → x ≡ y → IsTrueStage x → y.from ≡ entries_of held → IsTaken d s y
+  taken y is truth starts =
+      let g = subst (IsFrom are_one d s) is f in
+      record {
+        plan = g.plan;
+        stage = g.stage;
+        view = g.view;
+        shard = g.shard;
+        holds = holds;
+        truth = subst IsTrueStage is truth;
+        next = subst (λ (z : StagePacketView). slice_get (lines_of d.cut) s ≡ Some z.from) is (next_is y.from (ap (λ (z : StagePacketView). z.from) is) starts);
+      }
 
 pub mode_holds : (d : Domain) (m : Mode) → HoldsTruth d → HoldsTruth (record d { mode = m })
 mode_holds d m h = record {

@@ -30,6 +30,11 @@ pub record Domain : Type 0 where
   pub marks : MarksView
   pub mode : Mode
 
+-- the domain of these parts
+abbrev pub domain_of : Layout → ℕ → ℕ → List (List LogView) → Kept Value (List Cells) → ℕ → MarksView → Mode → Domain
+domain_of plan view shard cut kept asked marks m =
+    record { plan = plan; view = view; shard = shard; cut = cut; kept = kept; asked = asked; marks = marks; mode = m }
+
 -- the fronts of a cut
 abbrev pub lines_of : List (List LogView) → List Line
 lines_of cut = map entries_of cut

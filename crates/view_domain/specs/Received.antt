@@ -1,5 +1,5 @@
 -- What a view domain makes of a message.
-use Rattle.std.specs.Prelude.{◌≡◌, ◌⊎◌, Some, Option, slice_get}
+use Rattle.std.specs.Prelude.{◌≡◌, ◌⊎◌, Some, Option, length, slice_get}
 use Rattle.row.specs.declared.refused.Refused.{Refused}
 use Rattle.row.specs.declared.refused.Refused.TheVariants.{NoMemory, Gap}
 use Rattle.packet.specs.Codes.{marks_in}
@@ -9,6 +9,12 @@ use Rattle.protocol.specs.Views.{ToView, packet, want, order, Done}
 use Rattle.view_domain.specs.Domains.{Domain, lines_of, view_of, stopped}
 use Rattle.view_domain.specs.Outboxes.{ShownView, OutboxView, IsClear, keys_told, cut_after, asked_after}
 use Rattle.view_domain.specs.Shown.{LeadsTo, rows_at}
+
+-- it runs, and the outbox is clear and has an edge to each stage shard
+pub record IsReady (d : Domain) (out : OutboxView) : Type 0 where
+  pub clear : IsClear out
+  pub edges : length out.requests ≡ d.plan.stages
+  pub running : d.mode ≡ mode.Running
 
 -- a packet starts at the line of its stage shard
 abbrev pub IsNext : Domain → ToView → Type 0

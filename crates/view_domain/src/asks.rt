@@ -1,23 +1,19 @@
 //! Requests of a view shard, and what a packet makes it put out.
-ghost use Rattle.std.specs.Prelude.{◌≡◌, ◌<◌, [], List, Some, None, map, length, replicate, slice_get, slice_set, true, false, is_some, IfOk, OnOk, OnErr, IfSome, IfNone, Option};
-ghost use Rattle.row.specs.Bags.{Each};
+ghost use Rattle.std.specs.Prelude.{◌≡◌, ◌<◌, [], List, Some, None, map, length, replicate, slice_get, slice_set, false, is_some, IfOk, OnOk, OnErr, IfSome, IfNone, Option};
 ghost use Rattle.row.specs.Cells.{Cells, Datum, datum_of};
-ghost use Rattle.row.specs.Changes.{IsCovered};
 ghost use Rattle.row.specs.Groups.{equal};
 ghost use Rattle.row.specs.declared.value.Value.{Value as Key};
-ghost use Rattle.partial.specs.States.{state_of, is_hole, ChangeFits};
+ghost use Rattle.partial.specs.States.{state_of, is_hole};
 ghost use Rattle.partial.specs.Sums.{sum_of_bags};
 ghost use Rattle.partial.specs.Truth.{IsTrueOf};
 ghost use Rattle.packet.specs.Codes.{mark_in, marks_in};
-ghost use Rattle.packet.specs.Keys.{Ascends, is_among, stands_of, begin_at};
+ghost use Rattle.packet.specs.Keys.{is_among, stands_of, begin_at};
 ghost use Rattle.packet.specs.Marks.{complete, partly};
-ghost use Rattle.packet.specs.Messages.{KeyedRecord};
 ghost use Rattle.packet.specs.Truth.{changes_at, key_of_piece};
 ghost use Rattle.protocol.specs.ViewSteps.{again, capped, counted, drop_all, give_piece, marks_with};
-ghost use Rattle.view_domain.specs.Groups.{named_in};
 ghost use Rattle.view_domain.specs.Shown.{LeadsTo, rows_at};
 ghost use Rattle.view_domain.specs.Outboxes.{new_line};
-ghost use Rattle.view_domain.specs.Taken.{IsStepOf, IsPieceFor, asks_by};
+ghost use Rattle.view_domain.specs.Taken.{IsStepOf, IsPieceFor, MayTake, asks_by};
 
 use crate::shown::KeyChange;
 use crate::takes::take_in;
@@ -166,12 +162,8 @@ pub(crate) fn prepare<F: Fronts>(
     to: &Line<F>,
     content: Content,
 ) -> Result<Made<F>, AllocError>
-    requires up { Ascends (map datum_of content.evicts.items) }
-    requires apart { Each (λ (c : KeyedRecord). is_among (map datum_of content.evicts.items) c.key
-        ≡ false) content.changes.items }
-    requires fits { (k : Key) → is_among (named_in content.changes.items) (datum_of k) ≡ true
-        → ChangeFits IsCovered source (changes_at (datum_of k) content.changes.items)
-        (state_of equal kept.old k) }
+    requires may { MayTake source (map datum_of content.evicts.items) content.changes.items
+        kept.old }
     requires sender { source < marks.old.senders }
     requires waiting { complete marks.old.waiting ≡ [] }
     ensures sources { kept.new.sources ≡ kept.old.sources }

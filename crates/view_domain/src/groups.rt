@@ -1,12 +1,12 @@
 //! Records in groups, one for each key.
 ghost use Rattle.std.specs.Prelude.{◌≡◌, ◌++◌, ◌∷◌, ◌||◌, [], IfOk, OnOk, if◌then◌else◌};
+ghost use Rattle.view_domain.specs.Groups.{records_at, names_of, named_in};
 ghost use Rattle.std.specs.List.{IsDistinct};
 ghost use Rattle.std.specs.Map.{keys_of};
 ghost use Rattle.row.specs.Cells.{Datum, datum_of, same};
 ghost use Rattle.row.specs.Groups.{equal};
 ghost use Rattle.packet.specs.Keys.{is_among};
 ghost use Rattle.packet.specs.Truth.{changes_at};
-ghost use Rattle.view_domain.specs.Groups.{records_at, names_of, named_in};
 
 use indexmap::IndexMap;
 use indexmap::map::IntoIter;
@@ -72,15 +72,6 @@ impl Model for Groups {
 }
 
 impl Groups {
-    /// No groups. Takes no memory yet.
-    pub fn new(alloc: Global) -> Groups
-        ensures { result ≡ [] }
-    {
-        Groups {
-            groups: IndexMap::new(alloc),
-        }
-    }
-
     /// Puts a record last in the group of the key. Errors: memory only. Cost: one look-up by hash;
     /// the record is moved, and the key where it is the first of its group.
     pub fn push(&mut self, alloc: Global, key: Value, change: Record) -> Result<(), AllocError>
@@ -98,6 +89,15 @@ impl Groups {
                 self.groups.insert(key, group)?;
                 Ok(())
             }
+        }
+    }
+
+    /// No groups. Takes no memory yet.
+    pub fn new(alloc: Global) -> Groups
+        ensures { result ≡ [] }
+    {
+        Groups {
+            groups: IndexMap::new(alloc),
         }
     }
 

@@ -186,10 +186,10 @@ fn tell_filled(
 /// that is filled by it.
 pub fn fill_key(
     alloc: Global,
-    kept: &mut Partial<Value, Bag>,
     source: usize,
     key: Value,
     rows: Bag,
+    kept: &mut Partial<Value, Bag>,
     told: &mut Vec<KeyChange>,
 ) -> Result<(), AllocError>
     ensures sources { kept.new.sources ≡ kept.old.sources }
@@ -211,11 +211,11 @@ fn open_oldest(kept: &mut Partial<Value, Bag>, told: &mut Vec<KeyChange>) -> Res
     ensures sources { kept.new.sources ≡ kept.old.sources }
     ensures stands { stands_of kept.new
         ≡ oldest_open (stands_of kept.old).order (stands_of kept.old) }
+    ensures shown { (first : Key → Option (List Cells)) → LeadsTo first told.old.items kept.old
+        → OnOk result (LeadsTo first told.new.items kept.new) }
     ensures truth { (k : Key) (parts : List (List Cells))
         → IsTrueOf sum_of_bags parts (state_of equal kept.old k)
         → IsTrueOf sum_of_bags parts (state_of equal kept.new k) }
-    ensures shown { (first : Key → Option (List Cells)) → LeadsTo first told.old.items kept.old
-        → OnOk result (LeadsTo first told.new.items kept.new) }
 {
     kept.keeps_apart();
     let Some(key) = kept.evict_oldest() else {
@@ -228,8 +228,8 @@ fn open_oldest(kept: &mut Partial<Value, Bag>, told: &mut Vec<KeyChange>) -> Res
 /// cap are filled. Says which, behind what was told. Errors: memory only; how far it came is then
 /// not said. Constant time for each key that goes.
 pub fn cap_keys(
-    kept: &mut Partial<Value, Bag>,
     cap: usize,
+    kept: &mut Partial<Value, Bag>,
     told: &mut Vec<KeyChange>,
 ) -> Result<(), AllocError>
     ensures sources { kept.new.sources ≡ kept.old.sources }

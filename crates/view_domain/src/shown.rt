@@ -37,7 +37,12 @@ impl<F: Fronts> Model for ShownChange<F> {
 
     ghost Value = { ShownView };
 
-    ghost view = { λ s. record { stage = s.stage; line = s.line; keys = s.keys.items; asked = s.asked } };
+    ghost view = { λ s. record {
+      stage = s.stage;
+      line = s.line;
+      keys = s.keys.items;
+      asked = s.asked;
+    } };
 }
 
 impl<F: Fronts> ShownChange<F> {

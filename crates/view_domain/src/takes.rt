@@ -1,20 +1,16 @@
 //! What a view shard does with what a packet of a stage shard carries.
 ghost use Rattle.std.specs.Prelude.{◌≡◌, [], List, Some, None, map, length, slice_get, slice_set, true, false, IfOk, OnOk, IfSome, Option};
-ghost use Rattle.row.specs.Bags.{Each, sorted};
-ghost use Rattle.row.specs.Cells.{Cells, datum_of, row_cmp};
-ghost use Rattle.row.specs.Changes.{IsCovered};
+ghost use Rattle.row.specs.Cells.{Cells, datum_of};
 ghost use Rattle.row.specs.Groups.{equal};
 ghost use Rattle.row.specs.declared.value.Value.{Value as Key};
-ghost use Rattle.partial.specs.States.{state_of, ChangeFits};
+ghost use Rattle.partial.specs.States.{state_of};
 ghost use Rattle.partial.specs.Sums.{sum_of_bags};
 ghost use Rattle.partial.specs.Truth.{IsTrueOf};
-ghost use Rattle.packet.specs.Keys.{Ascends, is_among, stands_of};
-ghost use Rattle.packet.specs.Messages.{KeyedRecord};
+ghost use Rattle.packet.specs.Keys.{is_among, stands_of};
 ghost use Rattle.packet.specs.Truth.{changes_at, key_of_piece};
 ghost use Rattle.protocol.specs.ViewSteps.{again, capped, drop_all, give_piece};
-ghost use Rattle.view_domain.specs.Groups.{named_in};
 ghost use Rattle.view_domain.specs.Shown.{LeadsTo, rows_at};
-ghost use Rattle.view_domain.specs.Taken.{IsStepOf, IsPieceFor};
+ghost use Rattle.view_domain.specs.Taken.{IsStepOf, IsPieceFor, MayTake};
 
 use crate::bags::bag_of;
 use crate::groups::grouped;
@@ -44,12 +40,7 @@ fn take_changes(
     changes: Vec<Keyed>,
     evicts: Vec<Value>,
 ) -> Result<Taken, AllocError>
-    requires up { Ascends (map datum_of evicts.items) }
-    requires apart { Each (λ (c : KeyedRecord). is_among (map datum_of evicts.items) c.key
-        ≡ false) changes.items }
-    requires fits { (k : Key) → is_among (named_in changes.items) (datum_of k) ≡ true
-        → ChangeFits IsCovered source (changes_at (datum_of k) changes.items)
-        (state_of equal kept.old k) }
+    requires may { MayTake source (map datum_of evicts.items) changes.items kept.old }
     ensures sources { kept.new.sources ≡ kept.old.sources }
     ensures stands { OnOk result (stands_of kept.new
         ≡ drop_all source (map datum_of evicts.items) (stands_of kept.old)) }
@@ -94,7 +85,7 @@ fn take_piece(
     };
     let (key, rows) = piece.into_parts();
     let rows = bag_of(alloc, rows)?;
-    fill_key(alloc, kept, source, key, rows, told)
+    fill_key(alloc, source, key, rows, kept, told)
 }
 
 /// Takes in what a packet of a source carries: the keys that it evicts, its records, its piece, and
@@ -109,13 +100,10 @@ pub(crate) fn take_in(
     evicts: Vec<Value>,
     piece: Option<Piece>,
 ) -> Result<Taken, AllocError>
-    requires up { Ascends (map datum_of evicts.items) }
-    requires apart { Each (λ (c : KeyedRecord). is_among (map datum_of evicts.items) c.key
-        ≡ false) changes.items }
-    requires fits { (k : Key) → is_among (named_in changes.items) (datum_of k) ≡ true
-        → ChangeFits IsCovered source (changes_at (datum_of k) changes.items)
-        (state_of equal kept.old k) }
-    ensures sources { kept.new.sources ≡ kept.old.sources }
+    requires may { MayTake source (map datum_of evicts.items) changes.items kept.old }
+    ensures shown { IfOk result (λ t. LeadsTo (rows_at kept.old) t.told.items kept.new) }
+    ensures asks { IfOk result (λ t. map datum_of t.asks.items
+        ≡ again source (map datum_of evicts.items) (stands_of kept.old)) }
     ensures stands { OnOk result (stands_of kept.new
         ≡ capped cap (give_piece source (key_of_piece piece)
         (drop_all source (map datum_of evicts.items) (stands_of kept.old)))) }
@@ -127,12 +115,10 @@ pub(crate) fn take_in(
         → IsTrueOf sum_of_bags parts (state_of equal kept.old k)
         → OnOk result (IsTrueOf sum_of_bags (slice_set parts source next)
         (state_of equal kept.new k)) }
-    ensures shown { IfOk result (λ t. LeadsTo (rows_at kept.old) t.told.items kept.new) }
-    ensures asks { IfOk result (λ t. map datum_of t.asks.items
-        ≡ again source (map datum_of evicts.items) (stands_of kept.old)) }
+    ensures sources { kept.new.sources ≡ kept.old.sources }
 {
     let mut taken = take_changes(alloc, kept, source, changes, evicts)?;
     take_piece(alloc, kept, source, piece, &mut taken.told)?;
-    cap_keys(kept, cap, &mut taken.told)?;
+    cap_keys(cap, kept, &mut taken.told)?;
     Ok(taken)
 }

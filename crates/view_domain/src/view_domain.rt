@@ -12,7 +12,7 @@ ghost use Rattle.protocol.specs.ViewSteps.{step};
 ghost use Rattle.view_domain.specs.Codes.{message_of, IsFrom, Meets};
 ghost use Rattle.view_domain.specs.Domains.{lines_of, view_of, stopped};
 ghost use Rattle.view_domain.specs.Outboxes.{IsClear};
-ghost use Rattle.view_domain.specs.Received.{Fails, IsDone};
+ghost use Rattle.view_domain.specs.Received.{Fails, IsDone, IsReady};
 ghost use Rattle.view_domain.specs.Shown.{rows_at};
 
 use crate::asks::{Asks, begin_key, count, prepare};
@@ -54,13 +54,15 @@ impl<'p, F: Fronts> Model for ViewDomain<'p, F> {
     ghost use Rattle.std.specs.Prelude.{◌≡◌, ◌≢◌};
     ghost use Rattle.packet.specs.Readers.{tag_of};
     ghost use Rattle.packet.specs.declared.mode.Mode.TheVariants.{Broken};
-    ghost use Rattle.view_domain.specs.Domains.{Domain, HoldsTruth};
+    ghost use Rattle.view_domain.specs.Domains.{Domain, HoldsTruth, domain_of};
 
     ghost Value = { Domain };
 
-    ghost view = { λ d. record { plan = d.plan.now; view = d.view; shard = d.shard; cut = d.cut.items; kept = d.kept; asked = d.asked; marks = d.marks; mode = d.mode } };
+    ghost view = { λ d. domain_of d.plan.now d.view d.shard d.cut.items d.kept d.asked d.marks
+        d.mode };
 
-    ghost invariant = { λ d. (d.tag.0 ≡ tag_of d.view) × (d.mode ≢ Broken → HoldsTruth (record { plan = d.plan.now; view = d.view; shard = d.shard; cut = d.cut.items; kept = d.kept; asked = d.asked; marks = d.marks; mode = d.mode })) };
+    ghost invariant = { λ d. (d.tag.0 ≡ tag_of d.view) × (d.mode ≢ Broken → HoldsTruth
+        (domain_of d.plan.now d.view d.shard d.cut.items d.kept d.asked d.marks d.mode)) };
 }
 
 impl<'p, F: Fronts> ViewDomain<'p, F> {
@@ -133,9 +135,7 @@ impl<'p, F: Fronts> ViewDomain<'p, F> {
 
     /// Makes a filled key a hole. `NoMemory` breaks the domain.
     fn open(&mut self, alloc: Global, key: Value, out: &mut ViewOutbox<F>) -> Result<(), Refused>
-        requires ready { IsClear out.old }
-        requires edges { length out.old.requests ≡ self.old.plan.stages }
-        requires running { self.old.mode ≡ Mode.Running }
+        requires ready { IsReady self.old out.old }
         ensures done { OnOk result (IsDone (ordered (datum_of key))
             (step (view_of self.old) (ordered (datum_of key))) self.old out.new self.new) }
         ensures refused { IfErr result (λ e. Fails (ordered (datum_of key)) self.old e
@@ -153,14 +153,12 @@ impl<'p, F: Fronts> ViewDomain<'p, F> {
 
     /// Makes a hole wait, and asks each stage shard for it. `NoMemory` breaks the domain.
     fn begin(&mut self, alloc: Global, key: Value, out: &mut ViewOutbox<F>) -> Result<(), Refused>
-        requires ready { IsClear out.old }
-        requires edges { length out.old.requests ≡ self.old.plan.stages }
-        requires running { self.old.mode ≡ Mode.Running }
+        requires ready { IsReady self.old out.old }
         ensures done { OnOk result (IsDone (wanted (datum_of key))
             (step (view_of self.old) (wanted (datum_of key))) self.old out.new self.new) }
+        ensures edges { length out.new.requests ≡ length out.old.requests }
         ensures refused { IfErr result (λ e. Fails (wanted (datum_of key)) self.old e
             out.new self.new) }
-        ensures edges { length out.new.requests ≡ length out.old.requests }
     {
         let Ok(begun) = begin_key(alloc, &mut self.kept, self.tag, key) else {
             self.mode = Mode::Broken;
@@ -188,9 +186,7 @@ impl<'p, F: Fronts> ViewDomain<'p, F> {
         sent: StagePacket<F>,
         out: &mut ViewOutbox<F>,
     ) -> Result<(), Refused>
-        requires ready { IsClear out.old }
-        requires edges { length out.old.requests ≡ self.old.plan.stages }
-        requires running { self.old.mode ≡ Mode.Running }
+        requires ready { IsReady self.old out.old }
         requires from { IsFrom F.are_one self.old stage sent }
         ensures done { OnOk result (IsDone (sent_by stage (sent_of sent))
             (step (view_of self.old) (sent_by stage (sent_of sent))) self.old out.new self.new) }
