@@ -14,6 +14,11 @@ pub record WrittenView : Type 0 where
   pub entry : Change
   pub seen : List Item
 
+-- the reply of these parts
+abbrev pub written_with : ℕ → ℕ → ℕ → ℕ → Change → List Item → WrittenView
+written_with session number base index entry seen =
+    record { session = session; number = number; base = base; index = index; entry = entry; seen = seen }
+
 -- it does, and its author is that session, under that number
 pub record IsWritten (w : WrittenView) : Type 0 where
   pub entry : slice_get (log_of w.base w.seen) w.index ≡ Some w.entry

@@ -32,6 +32,10 @@ pub record SessionView : Type 0 where
   pub floors : Floors
   pub seen : List Item
 
+-- the session of these parts
+abbrev pub session_with : ℕ → ℕ → Floors → List Item → SessionView
+session_with session answered floors seen = record { session = session; answered = answered; floors = floors; seen = seen }
+
 -- the session's word, and how many items of it were seen
 abbrev pub own_word : Layout → ℕ → ℕ
 own_word p session = base_count p + session

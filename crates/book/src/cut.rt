@@ -202,7 +202,8 @@ impl<J: Naming> Cut<J> {
         requires stage { stage < J.plan.stages }
         requires source { source < length (sources_of J.plan) }
         requires base { source_at J.plan source ≡ front.now.base }
-        ensures lengths { self.new.lengths ≡ with_length self.old.lengths stage source front.now.len }
+        ensures lengths { self.new.lengths
+            ≡ with_length self.old.lengths stage source front.now.len }
         ensures fronts { fronts J.plan self.new ≡ with_front (fronts J.plan self.old) stage source
             (entries front.now) }
         ensures seen { IsPrefix self.old.seen self.new.seen }

@@ -5,7 +5,7 @@ ghost use Rattle.model.specs.Entries.{change_of};
 ghost use Rattle.book.specs.Fronts.{FrontView, entries, authors, IsAppended, IsMoved, MayAppend};
 ghost use Rattle.model.specs.Histories.{log_of};
 ghost use Rattle.model.specs.Legal.{IsLegal};
-ghost use Rattle.book.specs.Pages.{opens, IsLogOf, history_of};
+ghost use Rattle.book.specs.Pages.{IsLogOf, history_of};
 ghost use Rattle.model.specs.Places.{base_count};
 
 use crate::book::{Book, Moved};
@@ -23,10 +23,10 @@ use std::marker::{Model, PhantomData};
 /// what appends is a `Log`. A copy takes no memory.
 #[derive(Drop)]
 pub struct Front<J: Naming> {
+    pub(crate) of: PhantomData<J>,
     pub(crate) base: usize,
     pub(crate) len: u64,
     pub(crate) seen: Seen<LogPage, u64, Law>,
-    pub(crate) of: PhantomData<J>,
 }
 
 impl<J: Naming> Model for Front<J> {
@@ -63,21 +63,6 @@ impl<'a> Plain<Writing<'a>, LogPage, u64> for Add {
 }
 
 impl<J: Naming> Front<J> {
-    /// The empty front.
-    pub(crate) fn first(base: usize, seen: Seen<LogPage, u64, Law>) -> Front<J>
-        requires book { seen.book ≡ J.book }
-        requires log { seen.log ≡ opens J.plan J.sessions ∷ [] }
-        requires base { base < base_count J.plan }
-        ensures { result ≡ record { base = base; len = 0; seen = [] } }
-    {
-        Front {
-            base,
-            len: 0,
-            seen,
-            of: PhantomData,
-        }
-    }
-
     /// The empty front of a base shard, with what was seen.
     pub(crate) fn unread(base: usize, seen: Seen<LogPage, u64, Law>) -> Front<J>
         requires book { seen.book ≡ J.book }

@@ -50,7 +50,7 @@ impl<J: Naming> Log<J> {
         ensures { result ≡ empty_front base }
     {
         Log {
-            front: Front::first(base, seen),
+            front: Front::unread(base, seen),
         }
     }
 
@@ -87,11 +87,11 @@ impl<J: Naming> Log<J> {
 
     /// Sees the log as it is, and says how long it is. Its front stays.
     pub fn look(&mut self, book: &Book<J>) -> u64
-        ensures stays { self.new ≡ record self.old { seen = self.new.seen } }
-        ensures seen { IsPrefix self.old.seen self.new.seen }
+        ensures found { result ≡ length (log_of self.new.base self.new.seen) }
         ensures entries { entries self.new ≡ entries self.old }
         ensures authors { authors self.new ≡ authors self.old }
-        ensures found { result ≡ length (log_of self.new.base self.new.seen) }
+        ensures stays { self.new ≡ record self.old { seen = self.new.seen } }
+        ensures seen { IsPrefix self.old.seen self.new.seen }
     {
         self.front.look(book)
     }

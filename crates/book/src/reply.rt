@@ -17,40 +17,36 @@ use std::marker::{Model, PhantomData};
 /// The reply to an accepted write.
 #[derive(Drop)]
 pub struct Written<J: Naming> {
+    of: PhantomData<J>,
     session: u64,
     number: u64,
     base: usize,
     index: u64,
     entry: Entry,
     seen: Seen<LogPage, u64, Law>,
-    of: PhantomData<J>,
 }
 
 impl<J: Naming> Model for Written<J> {
     ghost use Rattle.std.specs.Prelude.{◌≡◌};
     ghost use Rattle.book.specs.Pages.{IsLogOf, history_of};
     ghost use Rattle.model.specs.Entries.{change_of};
-    ghost use Rattle.book.specs.Replies.{WrittenView, IsWritten};
+    ghost use Rattle.book.specs.Replies.{WrittenView, IsWritten, written_with};
 
     ghost Value = { WrittenView };
 
-    ghost view = { λ w. record { session = w.session; number = w.number; base = w.base; index = w.index; entry = change_of w.entry; seen = history_of w.seen.log } };
+    ghost view = { λ w. written_with w.session w.number w.base w.index (change_of w.entry)
+        (history_of w.seen.log) };
 
     ghost invariant = { λ w. (w.seen.book ≡ J.book) × IsLogOf J.plan J.sessions w.seen.log
-        × IsWritten (record {
-          session = w.session;
-          number = w.number;
-          base = w.base;
-          index = w.index;
-          entry = change_of w.entry;
-          seen = history_of w.seen.log;
-        }) };
+        × IsWritten (written_with w.session w.number w.base w.index (change_of w.entry)
+        (history_of w.seen.log)) };
 }
 
 impl<J: Naming> Written<J> {
     /// Whether it is the reply to this write. Cost: the length of the entry.
     pub fn is_of(&self, session: u64, number: u64, base: usize, entry: &Entry) -> bool
-        ensures same { IsTrue result → IsReplyTo session number base (change_of entry.now) self.now }
+        ensures same { IsTrue result
+            → IsReplyTo session number base (change_of entry.now) self.now }
         ensures sure { IsReplyTo session number base (change_of entry.now) self.now
             → IsTrue result }
     {

@@ -40,19 +40,15 @@ pub struct SessionWord<J: Naming> {
 impl<J: Naming> Model for SessionWord<J> {
     ghost use Rattle.std.specs.Prelude.{◌≡◌};
     ghost use Rattle.book.specs.Pages.{IsLogOf, history_of};
-    ghost use Rattle.book.specs.Sessions.{SessionView, IsSession};
+    ghost use Rattle.book.specs.Sessions.{SessionView, IsSession, session_with};
 
     ghost Value = { SessionView };
 
-    ghost view = { λ x. record { session = x.number; answered = x.answered; floors = x.floors; seen = history_of x.seen.log } };
+    ghost view = { λ x. session_with x.number x.answered x.floors (history_of x.seen.log) };
 
     ghost invariant = { λ x. (x.seen.book ≡ J.book) × IsLogOf J.plan J.sessions x.seen.log
-        × IsSession J.plan J.sessions (record {
-          session = x.number;
-          answered = x.answered;
-          floors = x.floors;
-          seen = history_of x.seen.log;
-        }) };
+        × IsSession J.plan J.sessions
+        (session_with x.number x.answered x.floors (history_of x.seen.log)) };
 }
 
 /// What an answer asks for.
@@ -60,9 +56,9 @@ impl<J: Naming> Model for SessionWord<J> {
 pub struct Reading<'a> {
     session: usize,
     view: usize,
+    cut: &'a Lengths,
     key: &'a Value,
     rows: &'a Vec<Row>,
-    cut: &'a Lengths,
 }
 
 impl<'a> Plain<Reading<'a>, LogPage, u64> for Add {
@@ -71,7 +67,8 @@ impl<'a> Plain<Reading<'a>, LogPage, u64> for Add {
     ghost use Rattle.book.specs.Pages.{adds};
     ghost use Rattle.row.specs.Cells.{datum_of};
 
-    ghost ask = { λ r. adds (read r.session r.view (datum_of r.key.now) r.rows.now.items r.cut.now) };
+    ghost ask = { λ r. adds (read r.session r.view (datum_of r.key.now) r.rows.now.items
+        r.cut.now) };
 
     ghost state = { λ r. None };
 }
@@ -79,9 +76,9 @@ impl<'a> Plain<Reading<'a>, LogPage, u64> for Add {
 /// What a fence asks for.
 #[derive(Drop)]
 pub struct Fencing<'a> {
-    session: usize,
     own: &'a Vec<Place>,
     floors: &'a Floors,
+    session: usize,
 }
 
 impl<'a> Plain<Fencing<'a>, LogPage, u64> for Add {
@@ -208,7 +205,8 @@ impl<J: Naming> SessionWord<J> {
             (floor_at cuts.floors v j)) }
         requires past { EachShard J.plan (λ v j. Each (IsPast J.plan (floor_at cuts.floors v j))
             (places_of own.now.items)) }
-        requires own { Each (IsOwn J.plan self.old.seen self.old.session) (places_of own.now.items) }
+        requires own { Each (IsOwn J.plan self.old.seen self.old.session)
+            (places_of own.now.items) }
         requires room { self.old.answered + 1 < 2 ^ 64 }
         ensures others { IsPrefix cuts.seen self.new.seen }
         ensures fenced { OnOk result (IsEnded J.plan self.old (places_of own.now.items) cuts.floors
