@@ -102,10 +102,10 @@ fn are_same(rows: &[Row], others: &[Row]) -> bool
 /// Whether these items, which are legal, allow the read after them.
 fn allows_read(
     alloc: Global,
+    read: &Read,
     plan: &Plan,
     sessions: usize,
     items: &[Item],
-    read: &Read,
 ) -> Result<bool, AllocError>
     requires { IsLegal plan.now sessions (history_of items.now) }
     ensures { IfOk result (λ allowed. Tells allowed
@@ -181,7 +181,7 @@ pub fn allows(
 {
     match item {
         Item::Write(write) => allows_write(alloc, plan, items, write),
-        Item::Read(read) => allows_read(alloc, plan, sessions, items, read),
+        Item::Read(read) => allows_read(alloc, read, plan, sessions, items),
         Item::Fence(fence) => allows_fence(alloc, plan, sessions, items, fence),
     }
 }

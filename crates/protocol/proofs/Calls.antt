@@ -398,6 +398,7 @@ module _ (w : World) (past : List Event) (h : List Item) (g : Good w past h) whe
   stop_view i None at = g
   stop_view i (Some n) at = record {
     wired = record {
+      cuts = edges_off IsRun Grows stage_runs (λ (v : View). v.cut) w.views w.to_view (lines_of w.stages) i n at g.wired.cuts;
       good = g.wired.good;
       bases = g.wired.bases;
       counted = g.wired.counted;
@@ -405,7 +406,6 @@ module _ (w : World) (past : List Event) (h : List Item) (g : Good w past h) whe
       planned = g.wired.planned;
       viewed = map_same (λ (n : Node View). record { view = n.is.view; shard = n.is.shard }) w.views i n (off n) at refl ∙ g.wired.viewed;
       lines = g.wired.lines;
-      cuts = edges_off IsRun Grows stage_runs (λ (v : View). v.cut) w.views w.to_view (lines_of w.stages) i n at g.wired.cuts;
       callers = callers_more w.views i n (off n) w.callers at (at_most_self (lengths_of n.is.cut)) g.wired.callers;
       sixteen = g.wired.sixteen;
     };

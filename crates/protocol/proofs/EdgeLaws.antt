@@ -61,13 +61,13 @@ module _ {F P : Type 0} (Run : F → List P → F → Type 0) (Before : F → F 
     edges_before held (n ∷ nodes) (inbox ∷ inboxes) senders h = (three_before n.runs (held n.is) inbox senders h.0, edges_before held nodes inboxes senders h.1)
 
     three_off : (runs : Bool) (fs : List F) (qs : List (List P)) (xs : List F) → Three (Led Run Before runs) fs qs xs → Three (Led Run Before false) fs qs xs
-    three_off runs [] [] [] h = tt
-    three_off runs [] [] (z ∷ xs) h = absurd h
-    three_off runs [] (q ∷ qs) xs h = absurd h
-    three_off runs (f ∷ fs) [] xs h = absurd h
-    three_off runs (f ∷ fs) (q ∷ qs) [] h = absurd h
+    three_off false fs qs xs h = h
+    three_off true [] [] [] h = tt
     three_off true (f ∷ fs) (q ∷ qs) (z ∷ xs) h = (laws.before f z q h.0, three_off true fs qs xs h.1)
-    three_off false (f ∷ fs) (q ∷ qs) (z ∷ xs) h = (h.0, three_off false fs qs xs h.1)
+    three_off true (f ∷ fs) (q ∷ qs) [] h = absurd h
+    three_off true (f ∷ fs) [] xs h = absurd h
+    three_off true [] (q ∷ qs) xs h = absurd h
+    three_off true [] [] (z ∷ xs) h = absurd h
 
     -- a receiver stops
     pub edges_off : {X : Type 0} (held : X → List F) (nodes : List (Node X)) (inboxes : List (List (List P))) (senders : List F) (i : ℕ) (n : Node X) → slice_get nodes i ≡ Some n

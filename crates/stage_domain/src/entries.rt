@@ -1,8 +1,8 @@
 //! The packet of an entry.
 ghost use Rattle.std.specs.Prelude.{◌≡◌, List, ◌∷◌, Some, None, length, map, slice_get, slice_set, IfOk, OnOk, OnErr, IsOkUnless};
-ghost use Rattle.row.specs.declared.record.Record.{Record as RecordView};
 ghost use Rattle.packet.specs.Lines.{AreOf, entries_of};
 ghost use Rattle.packet.specs.Messages.{none_of};
+ghost use Rattle.row.specs.declared.record.Record.{Record as RecordView};
 ghost use Rattle.stage_domain.specs.Domains.{HoldsRows, IsFrom};
 ghost use Rattle.packet.specs.Outboxes.{packets_on};
 ghost use Rattle.packet.specs.Readers.{readers};

@@ -1,11 +1,11 @@
 //! Records in groups, one for each key.
 ghost use Rattle.std.specs.Prelude.{◌≡◌, ◌++◌, ◌∷◌, ◌||◌, [], IfOk, OnOk, if◌then◌else◌};
-ghost use Rattle.view_domain.specs.Groups.{records_at, names_of, named_in};
 ghost use Rattle.std.specs.List.{IsDistinct};
 ghost use Rattle.std.specs.Map.{keys_of};
 ghost use Rattle.row.specs.Cells.{Datum, datum_of, same};
 ghost use Rattle.row.specs.Groups.{equal};
 ghost use Rattle.packet.specs.Keys.{is_among};
+ghost use Rattle.view_domain.specs.Groups.{records_at, names_of, named_in};
 ghost use Rattle.packet.specs.Truth.{changes_at};
 
 use indexmap::IndexMap;

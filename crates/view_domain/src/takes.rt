@@ -1,9 +1,9 @@
 //! What a view shard does with what a packet of a stage shard carries.
 ghost use Rattle.std.specs.Prelude.{◌≡◌, [], List, Some, None, map, length, slice_get, slice_set, true, false, IfOk, OnOk, IfSome, Option};
-ghost use Rattle.row.specs.Cells.{Cells, datum_of};
 ghost use Rattle.row.specs.Groups.{equal};
 ghost use Rattle.row.specs.declared.value.Value.{Value as Key};
 ghost use Rattle.partial.specs.States.{state_of};
+ghost use Rattle.row.specs.Cells.{Cells, datum_of};
 ghost use Rattle.partial.specs.Sums.{sum_of_bags};
 ghost use Rattle.partial.specs.Truth.{IsTrueOf};
 ghost use Rattle.packet.specs.Keys.{is_among, stands_of};
