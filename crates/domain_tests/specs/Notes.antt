@@ -1,22 +1,18 @@
 -- What the tests of domains speak of: the log of notes, and packets of it.
-use Rattle.std.specs.Prelude.{◌≡◌, List, [], ◌∷◌, Some, None, codes, pos}
+use Rattle.std.specs.Prelude.{◌≡◌, [], ◌∷◌, Some, None, codes, pos}
 use Rattle.row.specs.Cells.{Cells, int, text}
-use Rattle.row.specs.declared.record.Record.{Record}
-use Rattle.row.specs.declared.record.Sign.TheVariants.{Plus}
 use Rattle.plan.specs.Recipes.{notes_plan}
 use Rattle.model.specs.Fronts.{LogView}
 use Rattle.model.specs.Logs.{inserts}
-use Rattle.packet.specs.Messages.{StagePacketView}
+use Rattle.packet.specs.Messages.{BasePacketView, StagePacketView}
 use Rattle.packet.specs.declared.mode.Mode.TheVariants.{Running}
-use Rattle.stage_domain.specs.Domains.{Domain}
+use Rattle.protocol.specs.Stages.{ToStage}
+use Rattle.stage_domain.specs.Domains.{Domain, Meets}
 use Rattle.view_domain.specs.Domains as view
 
--- note 1 of author 7, and its coming
+-- note 1 of author 7
 abbrev pub note_row : Cells
 note_row = int (pos 1) ∷ int (pos 7) ∷ text (codes "a") ∷ []
-
-abbrev pub coming : List Record
-coming = record { row = note_row; sign = Plus } ∷ []
 
 -- the log without a note, and with the note
 abbrev pub no_notes : LogView
@@ -28,6 +24,12 @@ one_note = record no_notes { entries = inserts note_row ∷ [] }
 -- any front of a log is known to be of one log with a front without entries
 abbrev pub AreOne : (LogView → LogView → Type 0) → Type 0
 AreOne are_one = (l m : LogView) → l.entries ≡ [] → are_one l m
+
+-- a packet of the only base shard to the only stage shard
+pub record IsOfNotes (k : BasePacketView) : Type 0 where
+  pub plan : k.plan ≡ notes_plan
+  pub base : k.base ≡ 0
+  pub stage : k.stage ≡ 0
 
 -- the piece of author 7, of whom there is no note
 abbrev pub no_piece : StagePacketView
@@ -49,3 +51,7 @@ first_view = record {
   marks = record { senders = 1; waiting = [] };
   mode = Running;
 }
+
+-- the message is for the stage shard at the log without a note
+pub record IsForFirst (are_one : LogView → LogView → Type 0) (m : ToStage) : Type 0 where
+  pub meets : Meets are_one first_stage m

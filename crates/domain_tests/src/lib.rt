@@ -2,7 +2,9 @@
 #![tactic(auto)]
 
 #[cfg(test)]
-mod packets;
+mod domains;
+#[cfg(test)]
+mod notes;
 #[cfg(test)]
 mod stages;
 #[cfg(test)]

@@ -1,106 +1,109 @@
 //! The domain of the only view shard of notes: what each message makes it put out.
 ghost use Rattle.std.specs.Prelude.{◌≡◌, IfOk};
 ghost use Rattle.plan.specs.Recipes.{notes_plan};
-ghost use Rattle.view_domain.specs.Codes.{Meets};
+ghost use Rattle.view_domain.specs.Codes.{IsFrom, Meets};
 ghost use Rattle.view_domain.specs.Domains.{Domain};
-ghost use Rattle.domain_tests.specs.Notes.{no_notes, AreOne, first_view};
+ghost use Rattle.domain_tests.specs.Notes.{no_piece, first_view};
 
-use crate::packets::with_piece;
+use crate::notes::{AUTHOR, Notes};
 use model::fronts::Fronts;
-use model::list::{ListFront, ListRight};
-use packet::line::Line;
-use plan::plan::Plan;
 use row::refused::Refused;
-use row::value::Value;
 use std::alloc::{AllocError, Global};
-use std::test::Fail;
 use view_domain::message::ToView;
 use view_domain::outbox::ViewOutbox;
 use view_domain::view_domain::ViewDomain;
 
-// The view shard of notes over a line of a front with no entry.
-fn shard<'p, F: Fronts>(
-    alloc: Global,
-    plan: &'p Plan,
-    front: F,
-) -> Result<ViewDomain<'p, F>, AllocError>
-    requires plan { plan.now ≡ notes_plan }
-    requires front { F.log front ≡ no_notes }
-    ensures { IfOk result (λ d. d ≡ first_view) }
-{
-    let mut fronts = Vec::new(alloc);
-    fronts.push(front)?;
-    let mut cut = Vec::new(alloc);
-    cut.push(Line::new(fronts))?;
-    ViewDomain::new(alloc, plan, 0, 0, cut)
+/// What is told of the author's key.
+#[derive(Clone, Copy)]
+enum Told {
+    Want,
+    Order,
 }
 
-// How many requests a message of a key, to be wanted or to be evicted, makes the shard send, and
-// whether the key is then filled.
-fn asks<F: Fronts>(
+/// What is told, how many requests are sent for it, and whether the shown copy is told of it.
+const MESSAGES: &[(Told, usize, bool)] = &[(Told::Want, 1, true), (Told::Order, 0, false)];
+
+// The view shard without a note.
+fn first_view<'p, F: Fronts>(
     alloc: Global,
-    plan: &Plan,
-    front: F,
+    notes: &Notes<'p, F>,
+) -> Result<ViewDomain<'p, F>, AllocError>
+    ensures { IfOk result (λ d. d ≡ first_view) }
+{
+    let mut cut = Vec::new(alloc);
+    cut.push(notes.line(alloc)?)?;
+    ViewDomain::new(alloc, notes.plan(), 0, 0, cut)
+}
+
+// What is told, as a message.
+fn message<F: Fronts>(told: Told) -> ToView<F>
+    ensures { (d : Domain) → Meets F.are_one d result }
+{
+    match told {
+        Told::Want => ToView::Want { key: AUTHOR },
+        Told::Order => ToView::Order { key: AUTHOR },
+    }
+}
+
+// How many requests a message makes it send, and whether the shown copy is told of it.
+fn put_out<'p, F: Fronts>(
+    alloc: Global,
+    domain: &mut ViewDomain<'p, F>,
     message: ToView<F>,
 ) -> Result<(usize, bool), Refused>
-    requires plan { plan.now ≡ notes_plan }
-    requires front { F.log front ≡ no_notes }
-    requires meets { (d : Domain) → Meets F.are_one d message }
+    requires plan { domain.old.plan ≡ notes_plan }
+    requires meets { Meets F.are_one domain.old message }
 {
-    let mut domain: ViewDomain<F> = shard(alloc, plan, front)?;
     let mut out = ViewOutbox::new(alloc, 1)?;
     domain.receive(alloc, message, &mut out)?;
     let told = out.take_shown().is_some();
-    Ok((
-        out.take_requests(alloc, 0).len(),
-        told || domain.get(&Value::Int(7)).is_some(),
-    ))
+    Ok((out.take_requests(alloc, 0).len(), told))
 }
 
-fn asks_for_each<F: Fronts>(alloc: Global, plan: &Plan, front: F) -> Result<bool, Refused>
-    requires plan { plan.now ≡ notes_plan }
-    requires front { F.log front ≡ no_notes }
-{
-    let key = Value::Int(7);
-    let wanted = asks(alloc, plan, front.again(alloc)?, ToView::Want { key })?;
-    let key = Value::Int(7);
-    let ordered = asks(alloc, plan, front, ToView::Order { key })?;
-    Ok(wanted == (1, true) && ordered == (0, false))
+// What it is made to put out by what it is told first.
+fn tells<'p, F: Fronts>(
+    alloc: Global,
+    notes: &Notes<'p, F>,
+    told: Told,
+) -> Result<(usize, bool), Refused> {
+    let mut domain = first_view(alloc, notes)?;
+    put_out(alloc, &mut domain, message(told))
 }
 
-// Whether the piece of the author that is wanted fills its key, with no rows.
-fn fills<F: Fronts>(alloc: Global, plan: &Plan, front: F) -> Result<bool, Refused>
-    requires plan { plan.now ≡ notes_plan }
-    requires front { F.log front ≡ no_notes }
-    requires one { AreOne F.are_one }
+// The view shard once the key is wanted, for which the piece then is.
+fn waiting_view<'p, F: Fronts>(
+    alloc: Global,
+    notes: &Notes<'p, F>,
+) -> Result<ViewDomain<'p, F>, Refused>
+    ensures plan { IfOk result (λ d. d.plan ≡ notes_plan) }
+    ensures from { IfOk result (λ d. IsFrom F.are_one d 0 no_piece) }
 {
-    let mut domain: ViewDomain<F> = shard(alloc, plan, front.again(alloc)?)?;
-    let key = Value::Int(7);
-    domain.receive(alloc, ToView::Want { key }, &mut ViewOutbox::new(alloc, 1)?)?;
-    let packet = with_piece(alloc, front)?;
-    let stage = 0;
-    let message = ToView::Packet { stage, packet };
-    domain.receive(alloc, message, &mut ViewOutbox::new(alloc, 1)?)?;
+    let mut domain = first_view(alloc, notes)?;
+    let mut out = ViewOutbox::new(alloc, 1)?;
+    domain.receive(alloc, ToView::Want { key: AUTHOR }, &mut out)?;
+    notes.are_one();
+    Ok(domain)
+}
+
+// Whether the piece of the key that is wanted fills it, with no rows.
+fn fills<'p, F: Fronts>(alloc: Global, notes: &Notes<'p, F>) -> Result<bool, Refused> {
+    let packet = notes.piece(alloc)?;
+    let mut domain = waiting_view(alloc, notes)?;
+    let told = put_out(alloc, &mut domain, ToView::Packet { stage: 0, packet })?;
     Ok(
-        domain
-            .get(&Value::Int(7))
-            .is_some_and(|rows| rows.rows().is_empty()),
+        told == (0, true)
+            && domain
+                .get(&AUTHOR)
+                .is_some_and(|rows| rows.rows().is_empty()),
     )
 }
 
-fn fills_over_lists(alloc: Global) -> Result<bool, Refused> {
-    let plan = Plan::built_in(alloc)?;
-    let right = ListRight::new(alloc, &plan, 0)?;
-    let asks = asks_for_each::<ListFront>(alloc, &plan, ListFront::of(&right, alloc)?)?;
-    let fills = fills::<ListFront>(alloc, &plan, ListFront::of(&right, alloc)?)?;
-    Ok(asks && fills)
-}
-
-#[test]
-fn a_view_domain_fills_a_hole(rt: HostRuntime) -> Result<(), Fail> {
-    let Ok(asked) = fills_over_lists(rt.alloc()) else {
-        return Err(Fail::from(AllocError));
-    };
-    assert!(rt; asked);
-    Ok(())
+// Whether each message is taken as it is to be.
+pub fn takes_each<'p, F: Fronts>(alloc: Global, notes: &Notes<'p, F>) -> Result<bool, Refused> {
+    for (told, requests, shown) in MESSAGES {
+        if tells(alloc, notes, *told)? != (*requests, *shown) {
+            return Ok(false);
+        }
+    }
+    fills(alloc, notes)
 }
