@@ -103,20 +103,14 @@ impl<'p, F: Fronts> Notes<'p, F> {
         Ok(BasePacket::new(0, 0, front, changes, None, None))
     }
 
-    /// A packet with the marker before the first note.
-    pub fn marker(&self, alloc: Global) -> Result<BasePacket<F>, AllocError>
+    /// A packet with the marker: before the first note, or behind it.
+    pub fn marker(&self, alloc: Global, is_later: bool) -> Result<BasePacket<F>, AllocError>
         ensures { IfOk result (λ k. IsOfNotes k) }
     {
-        let front = self.empty.again(alloc)?;
-        Ok(BasePacket::new(0, 0, front, Vec::new(alloc), None, Some(MARKER)))
-    }
-
-    /// A packet with the marker after the first note.
-    pub fn later_marker(&self, alloc: Global) -> Result<BasePacket<F>, AllocError>
-        ensures { IfOk result (λ k. IsOfNotes k) }
-    {
-        let front = self.later.again(alloc)?;
-        Ok(BasePacket::new(0, 1, front, Vec::new(alloc), None, Some(MARKER)))
+        let front = if is_later { &self.later } else { &self.empty };
+        let front = front.again(alloc)?;
+        let from = front.len();
+        Ok(BasePacket::new(0, from, front, Vec::new(alloc), None, Some(MARKER)))
     }
 
     /// The piece of the author before the first note.

@@ -30,38 +30,12 @@ enum Told {
 }
 
 /// What a packet carries: how many changes, how many rows in a piece, and whether a marker.
-#[derive(Clone, Copy, PartialEq, Eq)]
-struct Carried {
-    changes: usize,
-    piece: Option<usize>,
-    marker: bool,
-}
+type Carried = (usize, Option<usize>, bool);
 
 const MESSAGES: &[(Told, Carried)] = &[
-    (
-        Told::Note,
-        Carried {
-            changes: 1,
-            piece: None,
-            marker: false,
-        },
-    ),
-    (
-        Told::Marker,
-        Carried {
-            changes: 0,
-            piece: None,
-            marker: true,
-        },
-    ),
-    (
-        Told::Ask,
-        Carried {
-            changes: 0,
-            piece: Some(0),
-            marker: false,
-        },
-    ),
+    (Told::Note, (1, None, false)),
+    (Told::Marker, (0, None, true)),
+    (Told::Ask, (0, Some(0), false)),
 ];
 
 // The stage shard without a note.
@@ -84,8 +58,8 @@ fn message<'p, F: Fronts>(
 {
     match told {
         Told::Note => from_base(notes, notes.first(alloc)),
-        Told::Marker => from_base(notes, notes.marker(alloc)),
-        Told::LaterMarker => from_base(notes, notes.later_marker(alloc)),
+        Told::Marker => from_base(notes, notes.marker(alloc, false)),
+        Told::LaterMarker => from_base(notes, notes.marker(alloc, true)),
         Told::Ask => Ok(request()),
     }
 }
@@ -116,11 +90,11 @@ fn carried_by<F: Fronts>(packets: Vec<StagePacket<F>>) -> Option<Carried> {
     let mut last = None;
     for packet in packets {
         let (_, _, content) = packet.into_parts();
-        last = Some(Carried {
-            changes: content.changes.len(),
-            piece: content.piece.map(|piece| piece.rows().len()),
-            marker: content.marker == Some(MARKER),
-        });
+        let rows = match &content.piece {
+            Some(piece) => Some(piece.rows().len()),
+            None => None,
+        };
+        last = Some((content.changes.len(), rows, content.marker == Some(MARKER)));
     }
     if count == 1 { last } else { None }
 }

@@ -90,12 +90,10 @@ fn fills<'p, F: Fronts>(alloc: Global, notes: &Notes<'p, F>) -> Result<bool, Ref
     let packet = notes.piece(alloc)?;
     let mut domain = waiting_view(alloc, notes)?;
     let told = put_out(alloc, &mut domain, ToView::Packet { stage: 0, packet })?;
-    Ok(
-        told == (0, true)
-            && domain
-                .get(&AUTHOR)
-                .is_some_and(|rows| rows.rows().is_empty()),
-    )
+    match domain.get(&AUTHOR) {
+        Some(rows) => Ok(told == (0, true) && rows.rows().is_empty()),
+        None => Ok(false),
+    }
 }
 
 // Whether each message is taken as it is to be.
