@@ -3,7 +3,7 @@ ghost use Rattle.std.specs.Prelude.{◌≢◌};
 
 use crate::words::{records, written_records};
 use ops::shape::Shape;
-use ops::side::{Side, have_column};
+use ops::side::{Side, SideRows, have_column};
 use ops::stage::{Stage, full};
 use ops::total::all_fit_64_bits;
 use plan::kinds::Aggregate;
@@ -41,7 +41,7 @@ fn turn(alloc: Global, bag: &mut Bag, records: &[Record]) -> Result<bool, AllocE
 
 fn take_step(
     alloc: Global,
-    stage: &mut Stage,
+    stage: &mut Stage<SideRows>,
     side: Side,
     records: &[Record],
 ) -> Result<Vec<Record>, Fail> {
@@ -97,7 +97,7 @@ impl Beside {
 /// the output.
 fn step(
     alloc: Global,
-    stage: &mut Stage,
+    stage: &mut Stage<SideRows>,
     beside: &mut Beside,
     is_left: bool,
     records: &[Record],
@@ -122,7 +122,7 @@ type Step = (bool, &'static str, &'static str);
 fn is_right(
     alloc: Global,
     of: Keyed,
-    stage: &mut Stage,
+    stage: &mut Stage<SideRows>,
     beside: &mut Beside,
     one: &Step,
 ) -> Result<bool, Fail> {
@@ -334,7 +334,7 @@ fn tens_until_wrong(alloc: Global, of: Keyed) -> Result<Option<usize>, Fail> {
 
 fn change(
     alloc: Global,
-    stage: &mut Stage,
+    stage: &mut Stage<SideRows>,
     beside: &mut Beside,
     seed: &mut u64,
 ) -> Result<(), Fail> {

@@ -6,3 +6,4 @@ pub mod StageLaws
 pub mod StageSteps
 pub mod Takes
 pub mod Fits
+pub mod Untold
