@@ -13,6 +13,8 @@ mod parts;
 #[cfg(test)]
 mod plans;
 #[cfg(test)]
+mod sides;
+#[cfg(test)]
 mod stages;
 #[cfg(test)]
 mod words;
