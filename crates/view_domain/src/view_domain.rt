@@ -103,6 +103,13 @@ impl<'p, F: Fronts> ViewDomain<'p, F> {
         })
     }
 
+    /// Whether it runs, has stopped, or is broken.
+    pub fn mode(&self) -> Mode
+        ensures { result ≡ self.now.mode }
+    {
+        self.mode
+    }
+
     /// Stops: what it holds stays, and from then on it answers `Stopped` to every message. Where it
     /// does not run, nothing changes.
     pub fn stop(&mut self)

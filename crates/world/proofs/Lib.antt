@@ -1,0 +1,9 @@
+mod Queued
+mod StageTurns
+mod ViewTurns
+mod BaseTurns
+mod Steps
+mod Meeting
+mod Acks
+mod Viewed
+mod Sending
