@@ -164,9 +164,9 @@ impl Caller {
     }
 
     /// A view shard acknowledges the fence of this number with its cut; one that is not open is
-    /// past. The last acknowledgement ends the fence: `Fenced` where all cuts hold each entry of the
-    /// session, and else `Behind`. Errors: memory only; then nothing is said of the session. Cost:
-    /// constant time; the last one looks at each length of each cut.
+    /// past. The last acknowledgement ends the fence: `Fenced` where all cuts hold each entry of
+    /// the session, and else `Behind`. Errors: memory only; then nothing is said of the session.
+    /// Cost: a look at each view shard; the last one looks at each length of each cut.
     pub fn acknowledge(
         &mut self,
         alloc: Global,
@@ -180,8 +180,8 @@ impl Caller {
         ensures caller { OnOk result (self.new ≡ record self.old {
           is = (acknowledged places.now session self.old self.old.is.fence number reader cut).is;
         }) }
-        ensures reply { IfOk result (λ r. reply_of r
-            ≡ (acknowledged places.now session self.old self.old.is.fence number reader cut).reply) }
+        ensures reply { IfOk result (λ r. reply_of r ≡ (acknowledged places.now session self.old
+            self.old.is.fence number reader cut).reply) }
     {
         let Some(mut fence) = self.fence.take() else {
             return Ok(Reply::Delivered);

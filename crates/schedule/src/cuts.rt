@@ -123,8 +123,8 @@ fn raise_at(
     Ok(())
 }
 
-/// Raises each floor by the cut of its view shard. Errors: memory only; then some floors are raised.
-/// Cost: a look at each length of each cut.
+/// Raises each floor by the cut of its view shard. Errors: memory only; then some floors are
+/// raised. Cost: a look at each length of each cut.
 pub(crate) fn raise(
     alloc: Global,
     places: &Places,

@@ -154,9 +154,9 @@ impl<P: Drop> Queues<P> {
         Ok(())
     }
 
-    /// Puts what is on the edges last on the queues from a sender, to each receiver its own. Errors:
-    /// memory only; then nothing is said of the queues. Cost: a move of each message, and constant
-    /// time for each receiver.
+    /// Puts what is on the edges last on the queues from a sender, to each receiver its own.
+    /// Errors: memory only; then nothing is said of the queues. Cost: a move of each message, and
+    /// constant time for each receiver.
     pub fn push(
         &mut self,
         alloc: Global,

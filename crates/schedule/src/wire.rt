@@ -6,8 +6,8 @@ ghost use Rattle.schedule.specs.Ways.{wire_on, wires_on};
 
 use std::alloc::{AllocError, Global};
 
-/// An edge by the places of its ends among the sources, the stage shards and the view shards. Packets
-/// go from a source to a stage shard and on to a view shard, requests go back.
+/// An edge by the places of its ends among the sources, the stage shards and the view shards.
+/// Packets go from a source to a stage shard and on to a view shard, requests go back.
 #[derive(Clone, Copy, PartialEq, Eq, Debug)]
 pub enum Wire {
     FromSource { source: usize, stage: usize },

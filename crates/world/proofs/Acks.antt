@@ -1,7 +1,6 @@
 -- What a view shard acknowledges, as the session has it.
 use Rattle.std.proofs.Common.{Bool, true, false, cond, ◌==◌, ◌&&◌, nat_le, ◌≡◌, ℕ, zero, suc, ◌<◌, ◌≤◌, List, [], ◌∷◌, ◌++◌, ◌+◌, take, map, flat_map, length, Option, Some, None, is_some, slice_get, slice_set, slice_index_or, refl, ap, sym, ◌∙◌, subst, arith}
 use Rattle.std.specs.List.{list_all, range_with_len}
-use Rattle.plan.specs.Layouts.{Layout}
 use Rattle.model.specs.Fronts.{LogView}
 use Rattle.model.specs.Histories.{Author, Lengths, len_at}
 use Rattle.model.specs.Legal.{most_sessions}
@@ -12,13 +11,13 @@ use Rattle.view_domain.specs.Domains.{lines_of}
 use Rattle.protocol.specs.Edges.{pairs}
 use Rattle.row.specs.declared.refused.Refused.TheVariants.{Behind}
 use Rattle.protocol.specs.Events.{Reply, delivered, fenced, refused}
-use Rattle.protocol.specs.Worlds.{World, Caller, Fence}
+use Rattle.protocol.specs.Worlds.{World, Fence}
 use Rattle.protocol.specs.WorldSteps.{Did, says, with_caller, ack_of, ack_from, fence_told, fence_over, lengths_of, is_covered, covers, holds_own, own_in, raised}
 use Rattle.protocol.proofs.Lists.{map_set, map_get, set_same}
 use Rattle.schedule.specs.Sessions as session
 use Rattle.schedule.specs.Sessions.{Session, Told}
-use Rattle.world.specs.Held.{Held, Are, IsPlaced, IsDone, KnowsOwn, world_of, base_node}
-use Rattle.world.proofs.Steps.{set_are}
+use Rattle.world.specs.Held.{Held, IsPlaced, IsDone, KnowsOwn, world_of, base_node}
+use Rattle.world.proofs.Steps.{set_are, remade}
 
 map_is : {X Y : Type 0} (f g : X → Y) → ((x : X) → f x ≡ g x) → (xs : List X) → map f xs ≡ map g xs
 map_is f g h [] = refl
@@ -113,16 +112,9 @@ module _ {F : Type 0} (log : F → LogView) (authors : F → List Author) where
   session_world h se s = ap (λ cs. record (world_of log authors h) { callers = cs }) (map_set (λ (x : Session). x.is) h.sessions se s)
 
   pub session_placed : (h : Held F) (se : ℕ) (s : Session) → IsPlaced log authors h → KnowsOwn (map (base_node log authors) h.bases) se s → IsPlaced log authors (with_session h se s)
-  session_placed h se s p knows = record {
-    good = p.good;
-    bases = p.bases;
-    stages = p.stages;
-    views = p.views;
-    to_stage = p.to_stage;
-    to_view = p.to_view;
-    from_view = p.from_view;
-    sessions = set_are (KnowsOwn (map (base_node log authors) h.bases)) most_sessions h.sessions se s p.sessions knows;
-  }
+  session_placed h se s p knows =
+      remade log authors h p h.stages p.stages h.views p.views h.to_stage p.to_stage h.to_view p.to_view h.from_view p.from_view (slice_set h.sessions se s)
+      (set_are (KnowsOwn (map (base_node log authors) h.bases)) most_sessions h.sessions se s p.sessions knows)
 
   pub ack_done : (h : Held F) (se : ℕ) (s new : Session) (number r : ℕ) (cut : Lengths) (reply : Reply) → IsPlaced log authors h → slice_get h.sessions se ≡ Some s
       → new ≡ record s { is = (session.acknowledged h.plan se s s.is.fence number r cut).is } → reply ≡ (session.acknowledged h.plan se s s.is.fence number r cut).reply

@@ -1,22 +1,22 @@
 -- A message to a base shard: where it and its packets stand then.
-use Rattle.std.proofs.Common.{Bool, true, false, not, cond, ◌==◌, nat_lt, ◌≡◌, ◌≢◌, ℕ, zero, suc, ◌+◌, ◌<◌, List, [], ◌∷◌, map, length, Option, Some, None, ◌⊎◌, inl, inr, slice_index_or, slice_get, refl, ap, sym, ◌∙◌, subst, arith}
+use Rattle.std.proofs.Common.{Bool, true, false, not, cond, ◌==◌, nat_lt, ◌≡◌, ◌≢◌, ℕ, zero, suc, ◌+◌, List, [], ◌∷◌, map, length, Option, Some, None, inl, inr, slice_index_or, refl, ap, sym, ◌∙◌, subst, arith}
 use Rattle.std.specs.List.{range_with_len}
 use Rattle.row.specs.Bags.{Each}
 use Rattle.row.specs.declared.refused.Refused.{Refused}
 use Rattle.row.specs.declared.refused.Refused.TheVariants.{NoMemory}
-use Rattle.plan.specs.Layouts.{SideLayout, Layout}
+use Rattle.plan.specs.Layouts.{SideLayout}
 use Rattle.model.specs.Fronts.{LogView}
 use Rattle.model.specs.Histories.{Author}
 use Rattle.model.specs.Legal.{limit, most_sessions}
 use Rattle.model.specs.Logs.{Change}
-use Rattle.model.specs.Places.{sources, source_at, layout_of}
+use Rattle.model.specs.Places.{sources, layout_of}
 use Rattle.model.specs.Refusals.{refusal}
-use Rattle.packet.specs.Messages.{BasePacketView, none_of, to_one}
+use Rattle.packet.specs.Messages.{BasePacketView, none_of}
 use Rattle.packet.specs.Outboxes.{OutboxView, packets_on}
 use Rattle.packet.specs.Readers.{side_of}
-use Rattle.protocol.specs.Bases.{Base, ToBase, write, request, marker, declined, Done, next_of}
-use Rattle.protocol.specs.BaseSteps.{step, quiet, decided, to_stages, appended, entry_packet, still, piece_for}
-use Rattle.protocol.specs.Edges.{pushed, source_place}
+use Rattle.protocol.specs.Bases.{Base, ToBase, write, request, marker, declined, next_of}
+use Rattle.protocol.specs.BaseSteps.{step, quiet, decided, to_stages, entry_packet, still, piece_for}
+use Rattle.protocol.specs.Edges.{source_place}
 use Rattle.protocol.specs.Worlds.{Node}
 use Rattle.protocol.specs.WorldSteps.{base_sent}
 use Rattle.protocol.proofs.Lists.{or_of}
@@ -24,7 +24,7 @@ use Rattle.protocol.proofs.Spots.{found, same_is, position_small}
 use Rattle.base_domain.specs.Domains.{Domain}
 use Rattle.base_domain.specs.Received.{base_at, verdict_of, Goes, IsDone, Stays}
 use Rattle.stage_domain.specs.Domains.{IsFrom}
-use Rattle.world.specs.Held.{IsBaseOf, AreQueued, base_node}
+use Rattle.world.specs.Held.{AreQueued}
 use Rattle.world.specs.Turned.{IsBaseTurn}
 use Rattle.world.proofs.Queued.{queued_pushed}
 

@@ -1,8 +1,7 @@
 -- The first message of an edge is for the domain at its end, and in turn.
-use Rattle.std.proofs.Common.{Bool, true, false, ◌≡◌, ℕ, zero, suc, ◌<◌, ◌≤◌, List, [], ◌∷◌, map, length, Some, None, slice_get, slice_set, slice_index_or, take, refl, ap, sym, ◌∙◌, subst, arith, inl, inr}
+use Rattle.std.proofs.Common.{true, ◌≡◌, ℕ, zero, suc, ◌<◌, List, [], ◌∷◌, map, length, Some, slice_get, slice_set, slice_index_or, take, refl, ap, sym, ◌∙◌, subst, arith, inl}
 use Rattle.std.proofs.lemmas.List.{length-map, take_all}
 use mathlib.Core.List.{IsPrefix}
-use Rattle.row.specs.Bags.{Each}
 use Rattle.plan.specs.Layouts.{Layout}
 use Rattle.model.specs.Fronts.{LogView, Agree}
 use Rattle.model.specs.Histories.{Author}
@@ -14,7 +13,7 @@ use Rattle.packet.specs.Readers.{Reader, readers}
 use Rattle.packet.specs.declared.mode.Mode.{Mode}
 use Rattle.packet.specs.declared.mode.Mode.TheVariants as mode
 use Rattle.protocol.specs.Edges.{queue}
-use Rattle.protocol.specs.Laws.{IsReached, IsNext}
+use Rattle.protocol.specs.Laws.{IsNext}
 use Rattle.protocol.specs.Stages.{packet}
 use Rattle.protocol.proofs.Every.{every_turn}
 use Rattle.protocol.proofs.Lists.{map_get, or_of}
@@ -22,9 +21,7 @@ use Rattle.stage_domain.specs.Domains.{Domain as StageDomain, stage_of, Meets, I
 use Rattle.view_domain.specs.Domains.{Domain as ViewDomain}
 use Rattle.world.specs.Held.{Held, IsWhole, IsStageOf, IsViewOf, AgreeingAreOne, world_of, stage_node, runs}
 use Rattle.world.proofs.Queued.{first_queued, map_or}
-
-abbrev reader : ℕ → ℕ → Reader
-reader i j = record { view = i; shard = j }
+use Rattle.world.proofs.StageTurns.{reader}
 
 pub there_at : {X : Type 0} (xs : List X) (i : ℕ) (d : X) → i < length xs → slice_get xs i ≡ Some (slice_index_or xs i d)
 there_at [] i d lt = absurd (omega (arith, lt))

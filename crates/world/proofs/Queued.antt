@@ -1,11 +1,11 @@
 -- Queues: what holds of each message on them, and what stands on them as far as keys go.
-use Rattle.std.proofs.Common.{◌≡◌, ℕ, zero, suc, List, [], ◌∷◌, ◌++◌, map, length, replicate, slice_get, slice_set, slice_index_or, Some, None, refl, ap, sym, ◌∙◌, subst}
+use Rattle.std.proofs.Common.{◌≡◌, ℕ, zero, suc, List, [], ◌∷◌, ◌++◌, map, length, replicate, slice_set, slice_index_or, refl, ap, sym, ◌∙◌, subst}
 use Rattle.std.proofs.lemmas.List.{map-append}
 use Rattle.row.specs.Bags.{Each}
 use Rattle.packet.specs.Messages.{none_of}
 use Rattle.protocol.specs.Edges.{pushed, queue, with_queue}
 use Rattle.protocol.specs.Worlds.{no_queues}
-use Rattle.protocol.proofs.Lists.{map_set, set_same, set_none}
+use Rattle.protocol.proofs.Lists.{map_set}
 use Rattle.protocol.proofs.Spots.{each_append}
 use Rattle.world.specs.Held.{AreQueued}
 

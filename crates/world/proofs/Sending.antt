@@ -1,19 +1,19 @@
 -- The first packet on the edge to a view shard: it is for it, and in turn; and what it makes of the world.
-use Rattle.std.proofs.Common.{Bool, true, false, cond, ◌≡◌, ℕ, ◌<◌, List, [], ◌∷◌, map, length, Option, Some, None, slice_get, refl, ap, sym, ◌∙◌, subst}
-use Rattle.model.specs.Fronts.{LogView, Agree}
+use Rattle.std.proofs.Common.{true, false, cond, ◌≡◌, ℕ, ◌<◌, List, [], ◌∷◌, map, Option, Some, None, slice_get, refl, ap, sym, ◌∙◌, subst}
+use Rattle.model.specs.Fronts.{LogView}
 use Rattle.model.specs.Histories.{Author}
 use Rattle.model.specs.Queries.{Line}
 use Rattle.packet.specs.Lines.{entries_of}
-use Rattle.packet.specs.Messages.{StagePacketView, Sent}
-use Rattle.packet.specs.Readers.{Reader, readers}
+use Rattle.packet.specs.Messages.{StagePacketView}
+use Rattle.packet.specs.Readers.{Reader}
 use Rattle.packet.specs.Truth.{Grows, Pointwise, sent_of}
 use Rattle.packet.specs.declared.mode.Mode.TheVariants as mode
-use Rattle.protocol.specs.Edges.{queue, with_queue}
+use Rattle.protocol.specs.Edges.{queue}
 use Rattle.protocol.specs.Events.{Reply, delivered, idle}
 use Rattle.protocol.specs.Laws.{IsNextSent}
 use Rattle.protocol.specs.Views.{View, ToView, packet}
 use Rattle.protocol.specs.Worlds.{Node, World}
-use Rattle.protocol.specs.WorldSteps.{Did, says, stage_came, view_takes, is_up}
+use Rattle.protocol.specs.WorldSteps.{says, stage_came, view_takes, is_up}
 use Rattle.protocol.proofs.Every.{every_turn}
 use Rattle.protocol.proofs.Lists.{map_get}
 use Rattle.schedule.specs.Taken.{IsTaken}
@@ -23,6 +23,7 @@ use Rattle.world.specs.Held.{Held, IsWhole, IsPlaced, IsDone, IsSentBy, AreQueue
 use Rattle.world.specs.Turned.{IsLost}
 use Rattle.world.proofs.Queued.{first_queued, queued_taken, map_queue, map_taken}
 use Rattle.world.proofs.Meeting.{prefix_agree}
+use Rattle.world.proofs.Steps.{remade}
 
 fronts_one : (are_one : LogView → LogView → Type 0) → AgreeingAreOne are_one → (line : List LogView) (to : Line) → Grows (entries_of line) to → Pointwise (GoesWith are_one) line to
 fronts_one are_one one [] [] h = tt
@@ -65,16 +66,8 @@ module _ {F : Type 0} (log : F → LogView) (authors : F → List Author) where
   off_stage h tv = record h { to_view = tv }
 
   pub sent_placed : (h : Held F) (r s : ℕ) (x : StagePacketView) (tv : List (List (List StagePacketView))) → IsTaken h.to_view r s x tv → IsPlaced log authors h → IsPlaced log authors (off_stage h tv)
-  sent_placed h r s x tv t p = record {
-    good = p.good;
-    bases = p.bases;
-    stages = p.stages;
-    views = p.views;
-    to_stage = p.to_stage;
-    to_view = subst (AreQueued (IsSentBy h.plan)) (sym t.is) (queued_taken (IsSentBy h.plan) h.to_view r s x t.rest t.was p.to_view);
-    from_view = p.from_view;
-    sessions = p.sessions;
-  }
+  sent_placed h r s x tv t p =
+      remade log authors h p h.stages p.stages h.views p.views h.to_stage p.to_stage tv (subst (AreQueued (IsSentBy h.plan)) (sym t.is) (queued_taken (IsSentBy h.plan) h.to_view r s x t.rest t.was p.to_view)) h.from_view p.from_view h.sessions p.sessions
 
   came_is : (h : Held F) (r s : ℕ) (x : StagePacketView) (tv : List (List (List StagePacketView))) → IsTaken h.to_view r s x tv
       → stage_came (world_of log authors h) s r (queue (sent_in h.to_view) r s) ≡ view_takes (world_of log authors (off_stage h tv)) r (slice_get (map view_node h.views) r) (packet s (sent_of x))

@@ -1,5 +1,5 @@
 -- A message to a stage shard: where it and its packets stand then.
-use Rattle.std.proofs.Common.{Bool, ◌≡◌, ◌≢◌, ℕ, zero, suc, ◌<◌, true, List, [], ◌∷◌, map, length, Option, Some, None, slice_get, slice_index_or, refl, ap, sym, ◌∙◌, subst}
+use Rattle.std.proofs.Common.{Bool, ◌≡◌, ◌≢◌, ℕ, zero, suc, ◌<◌, true, List, [], ◌∷◌, map, Option, Some, None, slice_get, slice_index_or, refl, ap, sym, ◌∙◌, subst}
 use Rattle.row.specs.Bags.{Each}
 use Rattle.plan.specs.Layouts.{Layout}
 use Rattle.model.specs.Places.{sources}
@@ -17,11 +17,11 @@ use Rattle.stage_domain.specs.Domains.{Domain, stage_of, IsTo, IsDone}
 use Rattle.stage_domain.proofs.FullSteps.{entry_step, marker_step, piece_step, request_step}
 use Rattle.protocol.specs.Worlds.{Node}
 use Rattle.protocol.proofs.Lists.{each_to}
-use Rattle.world.specs.Held.{IsStageOf, IsSentBy, AreQueued, stage_node, runs}
+use Rattle.world.specs.Held.{IsStageOf, IsSentBy, AreQueued, runs}
 use Rattle.world.specs.Turned.{IsStageTurn}
 use Rattle.world.proofs.Queued.{queued_pushed, map_pushed}
 
-abbrev reader : ℕ → ℕ → Reader
+abbrev pub reader : ℕ → ℕ → Reader
 reader i j = record { view = i; shard = j }
 
 abbrev node : Stage → Bool → Node Stage

@@ -1,20 +1,22 @@
 -- What one turn makes of the world that all domains and queues are.
-use Rattle.std.proofs.Common.{Bool, true, false, cond, ◌≡◌, ℕ, zero, suc, ◌<◌, ◌==◌, List, [], ◌∷◌, map, length, Option, Some, None, ◌⊎◌, inl, inr, slice_get, slice_set, slice_index_or, refl, ap, sym, ◌∙◌, subst}
-use Rattle.row.specs.Bags.{Each}
-use Rattle.plan.specs.Layouts.{Layout}
+use Rattle.std.proofs.Common.{true, false, cond, ◌≡◌, ℕ, ◌==◌, List, [], ◌∷◌, map, length, Option, Some, None, ◌⊎◌, inl, inr, slice_get, slice_set, refl, ap, sym, ◌∙◌, subst}
 use Rattle.model.specs.Fronts.{LogView}
 use Rattle.model.specs.Histories.{Author}
 use Rattle.model.specs.Places.{sources}
-use Rattle.packet.specs.Messages.{Ask, BasePacketView, StagePacketView, Sent, none_of}
+use Rattle.packet.specs.Messages.{Ask, BasePacketView, StagePacketView, Sent}
 use Rattle.protocol.specs.Edges.{pushed, queue, with_queue, to_base_back}
 use Rattle.protocol.specs.Stages.{Stage, ToStage, packet, request, Done}
 use Rattle.protocol.specs.StageSteps.{step}
-use Rattle.protocol.specs.Worlds.{Node, World, no_queues}
-use Rattle.protocol.specs.WorldSteps.{Did, says, stage_did, stage_takes, base_came, ask_came, base_ask_came, delivery, is_up}
+use Rattle.protocol.specs.Worlds.{Node, World}
+use Rattle.protocol.specs.WorldSteps.{stage_did, stage_takes, base_came, ask_came, base_ask_came, delivery, is_up}
 use Rattle.protocol.specs.Events.{delivered, idle}
 use Rattle.protocol.proofs.Lists.{map_set, map_get, set_size, got}
 use Rattle.stage_domain.specs.Domains.{Domain as StageDomain, stage_of, IsFrom}
-use Rattle.world.specs.Held.{Held, Are, IsPlaced, IsDone, IsStageOf, IsAsk, world_of, stage_node, sent_in, runs}
+use Rattle.model.specs.Legal.{most_sessions}
+use Rattle.packet.specs.Readers.{readers}
+use Rattle.schedule.specs.Sessions.{Session}
+use Rattle.view_domain.specs.Domains.{Domain as ViewDomain}
+use Rattle.world.specs.Held.{Held, Are, AreQueued, IsPlaced, IsDone, IsStageOf, IsViewOf, IsSentBy, IsAsk, KnowsOwn, base_node, world_of, stage_node, sent_in, runs}
 use Rattle.world.specs.Turned.{IsStageTurn, IsLost}
 use Rattle.schedule.specs.Taken.{IsTaken}
 use Rattle.packet.specs.declared.mode.Mode.TheVariants as mode
@@ -44,6 +46,14 @@ stage_down w s None m e = refl
 stage_down w s (Some n) m e = ap (λ b. cond b (stage_did w s (step n.is m)) w) e
 
 module _ {F : Type 0} (log : F → LogView) (authors : F → List Author) where
+  -- the stage shards, view shards, queues and sessions are others, each at its place
+  pub remade : (h : Held F) → IsPlaced log authors h → (stages : List StageDomain) → Are (IsStageOf h.plan) h.plan.stages stages → (views : List ViewDomain) → Are (IsViewOf h.plan) (length (readers h.plan)) views
+      → (to_stage : List (List (List BasePacketView))) → AreQueued (λ s j. IsFrom h.plan s j) to_stage → (to_view : List (List (List StagePacketView))) → AreQueued (IsSentBy h.plan) to_view → (from_view : List (List (List Ask))) → AreQueued (IsAsk h.plan) from_view
+      → (sessions : List Session) → Are (KnowsOwn (map (base_node log authors) h.bases)) most_sessions sessions
+      → IsPlaced log authors (record h { stages = stages; views = views; to_stage = to_stage; to_view = to_view; from_view = from_view; sessions = sessions })
+  remade h p stages a views b to_stage c to_view d from_view e sessions f =
+      record { good = p.good; bases = p.bases; stages = a; views = b; to_stage = c; to_view = d; from_view = e; sessions = f }
+
   -- ---- a stage shard has had its turn
   abbrev pub with_stage : Held F → ℕ → StageDomain → List (List (List StagePacketView)) → Held F
   with_stage h s new tv = record h { stages = slice_set h.stages s new; to_view = tv }
@@ -62,32 +72,16 @@ module _ {F : Type 0} (log : F → LogView) (authors : F → List Author) where
       ∙ ap (λ q. made w (slice_set (map stage_node h.stages) s (record { is = d.stage; runs = true })) (pushed s d.sent (sent_in h.to_view)) q) (sym none))
 
   pub stage_placed : (h : Held F) (s : ℕ) (new : StageDomain) (tv : List (List (List StagePacketView))) (d : Done) → IsPlaced log authors h → IsStageTurn h.plan s d h.to_view new tv → IsPlaced log authors (with_stage h s new tv)
-  stage_placed h s new tv d p t = record {
-    good = p.good;
-    bases = p.bases;
-    stages = set_are (IsStageOf h.plan) h.plan.stages h.stages s new p.stages t.is;
-    views = p.views;
-    to_stage = p.to_stage;
-    to_view = t.queued p.to_view;
-    from_view = p.from_view;
-    sessions = p.sessions;
-  }
+  stage_placed h s new tv d p t =
+      remade h p (slice_set h.stages s new) (set_are (IsStageOf h.plan) h.plan.stages h.stages s new p.stages t.is) h.views p.views h.to_stage p.to_stage tv (t.queued p.to_view) h.from_view p.from_view h.sessions p.sessions
 
   -- ---- a packet of a source is off its queue
   abbrev pub off_source : Held F → ℕ → ℕ → List BasePacketView → Held F
   off_source h s j ks = record h { to_stage = with_queue h.to_stage s j ks }
 
   pub off_placed : (h : Held F) (s j : ℕ) (k : BasePacketView) (ks : List BasePacketView) → queue h.to_stage s j ≡ k ∷ ks → IsPlaced log authors h → IsPlaced log authors (off_source h s j ks)
-  off_placed h s j k ks q p = record {
-    good = p.good;
-    bases = p.bases;
-    stages = p.stages;
-    views = p.views;
-    to_stage = queued_taken (λ s j. IsFrom h.plan s j) h.to_stage s j k ks q p.to_stage;
-    to_view = p.to_view;
-    from_view = p.from_view;
-    sessions = p.sessions;
-  }
+  off_placed h s j k ks q p =
+      remade h p h.stages p.stages h.views p.views (with_queue h.to_stage s j ks) (queued_taken (λ s j. IsFrom h.plan s j) h.to_stage s j k ks q p.to_stage) h.to_view p.to_view h.from_view p.from_view h.sessions p.sessions
 
   pub source_taken : (h : Held F) (s j : ℕ) (k : BasePacketView) (ks : List BasePacketView) (old new : StageDomain) (tv : List (List (List StagePacketView))) → queue h.to_stage s j ≡ k ∷ ks → IsPlaced log authors h
       → slice_get (map stage_node h.stages) s ≡ Some (stage_node old) → (stage_node old).runs ≡ true → IsStageTurn h.plan s (step (stage_of old) (packet j k)) h.to_view new tv
@@ -136,16 +130,8 @@ module _ {F : Type 0} (log : F → LogView) (authors : F → List Author) where
   off_view h s r asks = record h { from_view = with_queue h.from_view s r asks }
 
   asked_placed : (h : Held F) (s r : ℕ) (a : Ask) (asks : List Ask) → queue h.from_view s r ≡ a ∷ asks → IsPlaced log authors h → IsPlaced log authors (off_view h s r asks)
-  asked_placed h s r a asks q p = record {
-    good = p.good;
-    bases = p.bases;
-    stages = p.stages;
-    views = p.views;
-    to_stage = p.to_stage;
-    to_view = p.to_view;
-    from_view = queued_taken (IsAsk h.plan) h.from_view s r a asks q p.from_view;
-    sessions = p.sessions;
-  }
+  asked_placed h s r a asks q p =
+      remade h p h.stages p.stages h.views p.views h.to_stage p.to_stage h.to_view p.to_view (with_queue h.from_view s r asks) (queued_taken (IsAsk h.plan) h.from_view s r a asks q p.from_view) h.sessions p.sessions
 
   pub request_passed : (h : Held F) (s r : ℕ) (a : Ask) (fv : List (List (List Ask))) (old new : StageDomain) (tv : List (List (List StagePacketView))) → IsPlaced log authors h → IsTaken h.from_view s r a fv
       → slice_get h.stages s ≡ Some old → old.mode ≡ mode.Running → IsStageTurn old.plan s (step (stage_of old) (request a)) h.to_view new tv

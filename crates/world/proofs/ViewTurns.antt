@@ -1,15 +1,13 @@
 -- A message to a view shard: where it and its requests stand then.
-use Rattle.std.proofs.Common.{Bool, true, false, cond, ◌==◌, ◌≡◌, ◌≢◌, ℕ, zero, suc, ◌<◌, List, [], ◌∷◌, map, length, Some, slice_index_or, slice_get, refl, ap, sym, ◌∙◌, subst}
+use Rattle.std.proofs.Common.{Bool, true, false, cond, ◌==◌, ◌≡◌, ℕ, zero, suc, ◌<◌, List, [], ◌∷◌, map, length, Some, slice_index_or, refl, ap, sym, ◌∙◌, subst}
 use Rattle.std.specs.List.{range_with_len}
 use Rattle.row.specs.Bags.{Each}
 use Rattle.row.specs.Cells.{Datum}
 use Rattle.partial.specs.States.{is_hole}
 use Rattle.plan.specs.Layouts.{Layout}
-use Rattle.packet.specs.Messages.{Ask, none_of, to_all, to_one}
-use Rattle.packet.specs.Outboxes.{EdgeView, packets_on}
-use Rattle.packet.specs.Readers.{Reader, readers, view_of as view_in}
-use Rattle.packet.specs.declared.mode.Mode.{Mode}
-use Rattle.packet.specs.declared.mode.Mode.TheVariants as mode
+use Rattle.packet.specs.Messages.{Ask, none_of}
+use Rattle.packet.specs.Outboxes.{packets_on}
+use Rattle.packet.specs.Readers.{view_of as view_in}
 use Rattle.protocol.specs.Edges.{pushed}
 use Rattle.protocol.specs.Views.{View, ToView, packet, want, order, Done}
 use Rattle.protocol.specs.ViewSteps.{step, ask, begins, quiet, again}
@@ -18,13 +16,10 @@ use Rattle.protocol.proofs.Parts.{each_map_of}
 use Rattle.view_domain.specs.Domains.{Domain, view_of}
 use Rattle.view_domain.specs.Outboxes.{OutboxView}
 use Rattle.view_domain.specs.Received.{IsDone}
-use Rattle.world.specs.Held.{IsViewOf, IsAsk, AreQueued, view_node, runs}
+use Rattle.world.specs.Held.{IsViewOf, IsAsk, AreQueued, runs}
 use Rattle.world.specs.Turned.{IsViewTurn}
 use Rattle.world.proofs.Queued.{queued_pushed}
-use Rattle.world.proofs.StageTurns.{running_whole}
-
-abbrev reader : ℕ → ℕ → Reader
-reader i j = record { view = i; shard = j }
+use Rattle.world.proofs.StageTurns.{reader, running_whole}
 
 abbrev node : View → Bool → Node View
 node x b = record { is = x; runs = b }

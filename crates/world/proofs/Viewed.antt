@@ -1,21 +1,20 @@
 -- What one turn of a view shard makes of the world.
-use Rattle.std.proofs.Common.{Bool, true, false, cond, ◌≡◌, ℕ, ◌<◌, List, [], ◌∷◌, map, length, Option, Some, None, slice_get, slice_set, refl, ap, sym, ◌∙◌, subst}
+use Rattle.std.proofs.Common.{true, cond, ◌≡◌, ℕ, List, [], ◌∷◌, map, length, Some, slice_get, slice_set, refl, ap, sym, ◌∙◌, subst}
 use Rattle.model.specs.Fronts.{LogView}
 use Rattle.model.specs.Histories.{Author}
 use Rattle.packet.specs.Messages.{Ask, Mark}
 use Rattle.packet.specs.Readers.{readers}
 use Rattle.packet.specs.declared.mode.Mode.TheVariants as mode
-use Rattle.protocol.specs.Edges.{pushed}
 use Rattle.protocol.specs.Events.{Reply, delivered}
 use Rattle.protocol.specs.Views.{View, ToView, Done}
 use Rattle.protocol.specs.ViewSteps.{step}
 use Rattle.protocol.specs.Worlds.{Node, World}
-use Rattle.protocol.specs.WorldSteps.{Did, says, view_did, view_takes, acked, ack_from, lengths_of}
+use Rattle.protocol.specs.WorldSteps.{says, view_did, view_takes, acked, ack_from, lengths_of}
 use Rattle.protocol.proofs.Lists.{map_set, map_get}
 use Rattle.view_domain.specs.Domains.{Domain as ViewDomain, view_of, lines_of}
 use Rattle.world.specs.Held.{Held, IsPlaced, IsDone, IsViewOf, world_of, view_node, runs}
 use Rattle.world.specs.Turned.{IsViewTurn}
-use Rattle.world.proofs.Steps.{set_are}
+use Rattle.world.proofs.Steps.{set_are, remade}
 
 module _ {F : Type 0} (log : F → LogView) (authors : F → List Author) where
   abbrev pub with_view : Held F → ℕ → ViewDomain → List (List (List Ask)) → Held F
@@ -31,16 +30,8 @@ module _ {F : Type 0} (log : F → LogView) (authors : F → List Author) where
       ∙ ap (λ q. made w (slice_set (map view_node h.views) r (record { is = d.view; runs = true })) q) t.sent
 
   view_placed : (h : Held F) (r : ℕ) (new : ViewDomain) (fv : List (List (List Ask))) (d : Done) → IsPlaced log authors h → IsViewTurn h.plan r d h.from_view new fv → IsPlaced log authors (with_view h r new fv)
-  view_placed h r new fv d p t = record {
-    good = p.good;
-    bases = p.bases;
-    stages = p.stages;
-    views = set_are (IsViewOf h.plan) (length (readers h.plan)) h.views r new p.views t.is;
-    to_stage = p.to_stage;
-    to_view = p.to_view;
-    from_view = t.queued p.from_view;
-    sessions = p.sessions;
-  }
+  view_placed h r new fv d p t =
+      remade log authors h p h.stages p.stages (slice_set h.views r new) (set_are (IsViewOf h.plan) (length (readers h.plan)) h.views r new p.views t.is) h.to_stage p.to_stage h.to_view p.to_view fv (t.queued p.from_view) h.sessions p.sessions
 
   module _ (h : Held F) (r : ℕ) (old new : ViewDomain) (fv : List (List (List Ask))) (m : ToView) (p : IsPlaced log authors h) (at : slice_get h.views r ≡ Some old) (running : old.mode ≡ mode.Running)
       (turn : IsViewTurn old.plan r (step (view_of old) m) h.from_view new fv) where

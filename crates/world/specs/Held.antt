@@ -1,5 +1,5 @@
 -- All domains and edges in one value, and the world of the protocol that it is.
-use Rattle.std.specs.Prelude.{◌≡◌, ◌≢◌, ◌<◌, ℕ, Bool, not, true, false, List, [], map, length, Option, Some, slice_get, slice_index_or}
+use Rattle.std.specs.Prelude.{◌≡◌, ◌≢◌, ◌<◌, ℕ, Bool, not, true, false, List, map, length, Some, slice_get, slice_index_or}
 use Rattle.row.specs.Bags.{Each}
 use Rattle.plan.specs.Layouts.{Layout}
 use Rattle.plan.specs.Profile.{IsPlan}
@@ -8,7 +8,7 @@ use Rattle.model.specs.Fronts.{LogView, Agree}
 use Rattle.model.specs.Histories.{Author}
 use Rattle.model.specs.Places.{base_count, sources}
 use Rattle.packet.specs.Messages.{Ask, BasePacketView, StagePacketView, Sent}
-use Rattle.packet.specs.Readers.{Reader, readers, view_of}
+use Rattle.packet.specs.Readers.{readers, view_of}
 use Rattle.packet.specs.Truth.{sent_of}
 use Rattle.packet.specs.declared.mode.Mode.{Mode}
 use Rattle.packet.specs.declared.mode.Mode.TheVariants as mode

@@ -1,4 +1,4 @@
-use Rattle.std.proofs.Common.{◌≡◌, true, Some, map, slice_get, refl, ap, sym, ◌∙◌, subst}
+use Rattle.std.proofs.Common.{◌≡◌, true, Some, slice_get, ap, sym, ◌∙◌, subst}
 use Rattle.protocol.specs.WorldSteps.{is_up}
 use Rattle.protocol.proofs.Lists.{map_get}
 use Rattle.schedule.specs.Codes.{reader_in}

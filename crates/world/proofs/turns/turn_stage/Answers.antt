@@ -1,4 +1,3 @@
-use Rattle.std.proofs.Common.{sym, ◌∙◌}
 use Rattle.stage_domain.specs.Codes.{message_of}
 use Rattle.world.proofs.StageTurns.{stage_turn}
 use Rattle.world.proofs.turns.turn_stage.Goals as goal

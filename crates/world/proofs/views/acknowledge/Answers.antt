@@ -1,7 +1,7 @@
 use Rattle.std.proofs.Common.{Some, ap, sym, ◌∙◌, arith}
 use Rattle.std.proofs.lemmas.Bool.Decides.{nat_tests}
 use Rattle.world.specs.Machines.{held}
-use Rattle.world.proofs.Acks.{ack_done, ack_none}
+use Rattle.world.proofs.Acks.{ack_done}
 use Rattle.world.proofs.Meeting.{there_at}
 use Rattle.world.proofs.views.acknowledge.Goals as goal
 

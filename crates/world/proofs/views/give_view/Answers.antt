@@ -1,4 +1,4 @@
-use Rattle.std.proofs.Common.{◌≡◌, ◌<◌, length, true, Some, map, slice_get, slice_set, refl, ap, sym, ◌∙◌, subst}
+use Rattle.std.proofs.Common.{◌≡◌, true, Some, slice_get, ap, sym, ◌∙◌, subst}
 use Rattle.plan.specs.Layouts.{Layout}
 use Rattle.packet.specs.Codes.{mark_of, marks_in}
 use Rattle.protocol.specs.WorldSteps.{is_up, lengths_of}
