@@ -137,13 +137,20 @@ fn ends(alloc: Global, entries: u64, past: bool) -> Result<Reply, Refused> {
     caller.acknowledge(alloc, &places, 5, 0, if past { write } else { fence }, cut)
 }
 
+fn ends_as_told(alloc: Global) -> Result<bool, Refused> {
+    let whole = ends(alloc, 1, false)?;
+    let behind = ends(alloc, 0, false)?;
+    let past = ends(alloc, 1, true)?;
+    let ended = matches!(whole, Reply::Fenced(5));
+    let refused = matches!(behind, Reply::Refused(Refused::Behind));
+    Ok(ended && refused && matches!(past, Reply::Delivered))
+}
+
 #[test]
 fn a_fence_ends(rt: HostRuntime) -> Result<(), Fail> {
-    let whole = ends(rt.alloc(), 1, false);
-    assert!(rt; matches!(whole, Ok(Reply::Fenced(5))));
-    let behind = ends(rt.alloc(), 0, false);
-    assert!(rt; matches!(behind, Ok(Reply::Refused(Refused::Behind))));
-    let past = ends(rt.alloc(), 1, true);
-    assert!(rt; matches!(past, Ok(Reply::Delivered)));
+    let Ok(ended) = ends_as_told(rt.alloc()) else {
+        return Err(Fail::from(AllocError));
+    };
+    assert!(rt; ended);
     Ok(())
 }
