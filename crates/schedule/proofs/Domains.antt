@@ -124,15 +124,15 @@ base_away p d t n tables is a le =
 pub stage_had : (p : Layout) (d : DomainId) (n stages : ℕ) → d ≡ domain.Stage n → stages ≡ p.stages → nat_lt n stages ≡ is_there p d
 stage_had p d n stages is a = ap (nat_lt n) a ∙ (had_is p (domain.Stage n) ∙ ap (is_there p) (sym is))
 
-pub view_had : (p : Layout) (d : DomainId) (i j views shards : ℕ) → d ≡ domain.View i j → views ≡ length p.views → i < views → shards ≡ (view_at p i).shards → nat_lt j shards ≡ is_there p d
-view_had p d i j views shards is a lt b =
-    let e : nat_lt i (length p.views) ≡ true = is_less i (length p.views) (omega (arith, a, lt)) in
-    ap (nat_lt j) b ∙ sym (rw e refl) ∙ (had_is p (domain.View i j) ∙ ap (is_there p) (sym is))
-
 pub view_away : (p : Layout) (d : DomainId) (i j views : ℕ) → d ≡ domain.View i j → views ≡ length p.views → views ≤ i → nat_lt i views ≡ is_there p d
 view_away p d i j views is a le =
     let e : nat_lt i (length p.views) ≡ false = not_less i (length p.views) (omega (arith, a, le)) in
     not_less i views le ∙ sym (rw e refl) ∙ (had_is p (domain.View i j) ∙ ap (is_there p) (sym is))
+
+pub view_had : (p : Layout) (d : DomainId) (i j views shards : ℕ) → d ≡ domain.View i j → views ≡ length p.views → i < views → shards ≡ (view_at p i).shards → nat_lt j shards ≡ is_there p d
+view_had p d i j views shards is a lt b =
+    let e : nat_lt i (length p.views) ≡ true = is_less i (length p.views) (omega (arith, a, lt)) in
+    ap (nat_lt j) b ∙ sym (rw e refl) ∙ (had_is p (domain.View i j) ∙ ap (is_there p) (sym is))
 
 -- the table and the shard of a base shard that is there
 pub base_within : (p : Layout) (d : DomainId) (t n : ℕ) → d ≡ domain.Base t n → is_there p d ≡ true → (t < length p.tables) × (n < (table_at p t).shards)

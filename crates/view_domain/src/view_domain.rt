@@ -110,6 +110,20 @@ impl<'p, F: Fronts> ViewDomain<'p, F> {
         self.mode
     }
 
+    /// The view that it is a shard of.
+    pub fn view(&self) -> usize
+        ensures { result ≡ self.now.view }
+    {
+        self.view
+    }
+
+    /// How many requests it has sent; the count stays at the greatest number.
+    pub fn asked(&self) -> u64
+        ensures { result ≡ self.now.asked }
+    {
+        self.asked
+    }
+
     /// Stops: what it holds stays, and from then on it answers `Stopped` to every message. Where it
     /// does not run, nothing changes.
     pub fn stop(&mut self)

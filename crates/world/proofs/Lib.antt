@@ -7,3 +7,11 @@ mod Meeting
 mod Acks
 mod Viewed
 mod Sending
+mod Reached
+mod Rounded
+mod Ordered
+mod Based
+mod Fenced
+mod Stopping
+mod Looking
+mod Counting

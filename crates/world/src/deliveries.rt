@@ -193,8 +193,8 @@ fn lose_request<F: Fronts>(machine: &mut Machine<F>, reader: usize, stage: usize
     }
 }
 
-/// The first packet on the edge from a stage shard to a view shard. A shard that has stopped loses it.
-/// Errors: then nothing is said of the machine.
+/// The first packet on the edge from a stage shard to a view shard. A shard that has stopped
+/// loses it. Errors: then nothing is said of the machine.
 pub(crate) fn from_stage<F: Fronts>(
     alloc: Global,
     machine: &mut Machine<F>,

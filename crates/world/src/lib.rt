@@ -1,7 +1,13 @@
 //! All domains of a plan and all edges between them in one value: every schedule, with no thread.
 #![tactic(auto)]
 
+mod counts;
 mod deliveries;
+mod fences;
 mod machine;
+mod orders;
+mod reads;
+mod settles;
+mod stops;
 mod turns;
 mod views;

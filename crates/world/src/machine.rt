@@ -10,8 +10,8 @@ use schedule::queues::Queues;
 use stage_domain::stage_domain::StageDomain;
 use view_domain::view_domain::ViewDomain;
 
-/// All domains of a plan, the queue of each edge, and the sessions. Nothing is kept by the type: each
-/// call says what it asks and what it leaves.
+/// All domains of a plan, the queue of each edge, and the sessions. Nothing is kept by the type:
+/// each call says what it asks and what it leaves.
 #[derive(Drop)]
 pub(crate) struct Machine<'p, F: Fronts> {
     pub(crate) places: Places<'p>,

@@ -64,8 +64,8 @@ pub(crate) fn turn_stage<'p, F: Fronts>(
     Ok(())
 }
 
-/// A view shard that runs takes a message, and its requests go last on its queues; answers the fence
-/// that it acknowledges. Errors: then nothing is said of the shard and the queues.
+/// A view shard that runs takes a message, and its requests go last on its queues; answers the
+/// fence that it acknowledges. Errors: then nothing is said of the shard and the queues.
 pub(crate) fn turn_view<'p, F: Fronts>(
     alloc: Global,
     reader: usize,
@@ -104,9 +104,9 @@ fn not_shown<F: Fronts>(out: ViewOutbox<F>) -> (Edges<Request>, Option<Marker>)
     (requests, ack)
 }
 
-/// A base shard that runs takes a message, and its packets go last on the queues of the source that
-/// it is; answers its reply to a write. Errors: `NoMemory` also where the write was refused for that,
-/// and then nothing is said of the shard and the queues.
+/// A base shard that runs takes a message, and its packets go last on the queues of the source
+/// that it is; answers its reply to a write. Errors: `NoMemory` also where the write was refused
+/// for that, and then nothing is said of the shard and the queues.
 pub(crate) fn turn_base<'p, F: Fronts>(
     alloc: Global,
     words: &F::Words,

@@ -67,10 +67,10 @@ pub(crate) fn view_runs<F: Fronts>(views: &[ViewDomain<F>], reader: usize) -> bo
     ensures runs { result ≡ is_up (slice_get (map view_node views.now) reader) }
     ensures there { IsTrue result → reader < length views.now }
 {
-    match views.get(reader) {
-        Some(domain) => domain.mode() == Mode::Running,
-        None => false,
-    }
+    let Some(domain) = views.get(reader) else {
+        return false;
+    };
+    domain.mode() == Mode::Running
 }
 
 /// A view shard that runs takes a message. Errors: then nothing is said of the machine.

@@ -12,12 +12,10 @@ use Rattle.world.proofs.deliveries.pass_request.Goals as goal
 
 pub returns : goal.returns
 returns g c =
-    let at = there_at c.args.machine.now.stages.items c.args.stage _ c.requires.there ∙ ap Some (sym c.index_mut.ensures.value) in
-    let running = mode_runs c.index_mut.result.now.mode (subst (λ o. is_up o ≡ true) (map_get stage_node c.args.machine.now.stages.items c.args.stage c.index_mut.result.now at) c.requires.up) in
-    record {
-      done = request_passed g.F.Fronts.log g.F.Fronts.authors (held c.args.machine.now) c.args.stage c.args.reader c.in-Some.request c.take.new.self c.index_mut.result.now c.turn_stage.new.domain c.turn_stage.new.queues
-          c.requires.whole.placed c.in-Some.ensures.first at running c.in_ok-turn_stage.ensures.turn;
-    }
+    let there = there_at c.args.machine.now.stages.items c.args.stage _ c.requires.there ∙ ap Some (sym c.index_mut.ensures.value) in
+    let passed = request_passed g.F.Fronts.log g.F.Fronts.authors (held c.args.machine.now) c.args.stage c.args.reader c.in-Some.request c.take.new.self c.index_mut.result.now c.turn_stage.new.domain c.turn_stage.new.queues
+    c.requires.whole.placed c.in-Some.ensures.first there (mode_runs c.index_mut.result.now.mode (subst (λ o. is_up o ≡ true) (map_get stage_node c.args.machine.now.stages.items c.args.stage c.index_mut.result.now there) c.requires.up)) c.in_ok-turn_stage.ensures.turn in
+    record { done = passed }
 
 abbrev at : (g : _) (c : goal.After-turn_stage-arg-1 g) → slice_get c.args.machine.now.stages.items c.args.stage ≡ Some c.index_mut.result.now
 at g c = there_at c.args.machine.now.stages.items c.args.stage _ c.requires.there ∙ ap Some (sym c.index_mut.ensures.value)
