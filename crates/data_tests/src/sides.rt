@@ -1,38 +1,16 @@
-//! A stage of whose sides no row is here: what it does not tell.
-ghost use Rattle.std.specs.Prelude.{◌≡◌, ◌∷◌, [], IfOk, None, Some, pos};
+//! A stage of sides in full: it leaves nothing untold.
+ghost use Rattle.std.specs.Prelude.{◌≡◌, ◌∷◌, [], IfOk, pos};
 ghost use Rattle.row.specs.Cells.{int};
 ghost use Rattle.row.specs.declared.record.Sign.TheVariants.{Plus};
 
 use ops::shape::Shape;
-use ops::side::{KeyedRows, Side};
+use ops::side::{Side, SideRows};
 use ops::stage::Stage;
 use row::record::{Record, Sign};
 use row::row::Row;
 use row::value::Value;
 use std::alloc::{AllocError, Global};
 use std::test::Fail;
-
-/// A side of which no row is here, by its first column.
-#[derive(Drop)]
-struct Absent;
-
-impl KeyedRows for Absent {
-    ghost rows = { λ s. record { column = 0; aggregate = None; rows = []; keys = Some [] } };
-
-    fn column(&self) -> usize {
-        0
-    }
-
-    fn rows_of(&self, key: &Value) -> Option<&[Row]> {
-        None
-    }
-
-    fn add(&mut self, alloc: Global, row: &Row) -> Result<(), AllocError> {
-        Err(AllocError)
-    }
-
-    fn subtract(&mut self, row: &Row) {}
-}
 
 // A row that comes, with 5 and 7 in its columns.
 fn coming(alloc: Global) -> Result<Vec<Record>, AllocError>
@@ -51,17 +29,19 @@ fn coming(alloc: Global) -> Result<Vec<Record>, AllocError>
     Ok(records)
 }
 
-// Whether the second column of a left row without partners is told apart, and of no right row.
-fn tells_apart(alloc: Global) -> Result<bool, AllocError> {
-    let stage = Stage::over(Shape::Join, Absent, Absent);
+// Whether the values in the second column of rows without partners are all told.
+fn tells_all(alloc: Global) -> Result<bool, AllocError> {
+    let left = SideRows::new(alloc, 0, None);
+    let right = SideRows::new(alloc, 0, None);
+    let stage = Stage::over(Shape::Join, left, right);
     let records = coming(alloc)?;
     let lefts = stage.untold(alloc, Side::Left, 1, &records)?;
     let rights = stage.untold(alloc, Side::Right, 1, &records)?;
-    Ok(matches!(lefts.as_slice(), [Value::Int(7)]) && rights.is_empty())
+    Ok(lefts.is_empty() && rights.is_empty())
 }
 
 #[test]
-fn a_row_without_partners_is_told_apart(rt: HostRuntime) -> Result<(), Fail> {
-    assert!(rt; tells_apart(rt.alloc())?);
+fn a_stage_in_full_tells_all(rt: HostRuntime) -> Result<(), Fail> {
+    assert!(rt; tells_all(rt.alloc())?);
     Ok(())
 }
