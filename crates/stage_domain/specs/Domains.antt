@@ -97,9 +97,9 @@ pub record IsReady (d : Domain) (out : List (EdgeView StagePacketView)) : Type 0
 abbrev pub stopped : Domain → Domain
 stopped d = record d { mode = mode.Stopped }
 
--- a packet out of turn, after which all else is as it was; or want of memory, after which nothing is said of what it holds
+-- a packet out of turn, after which all else is as it was; or want of memory at one in turn, after which nothing is said of what it holds
 abbrev pub Fails : Domain → ToStage → Refused → Domain → Type 0
-Fails old m e new = ((e ≡ Gap) × (IsNext old m → ⊥) × (new ≡ stopped old)) ⊎ ((e ≡ NoMemory) × (new.mode ≡ mode.Broken))
+Fails old m e new = ((e ≡ Gap) × (IsNext old m → ⊥) × (new ≡ stopped old)) ⊎ ((e ≡ NoMemory) × IsNext old m × (new.mode ≡ mode.Broken))
 
 -- what its type keeps: the line has a front of each source, and while nothing is broken its rows are those of the line
 pub record HoldsTruth (p : Layout) (s : ℕ) (line : List LogView) (held : Held) (marks : MarksView) (m : Mode) : Type 0 where

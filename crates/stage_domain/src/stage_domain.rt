@@ -218,6 +218,7 @@ impl<'p, F: Fronts> StageDomain<'p, F> {
     ) -> Result<(), Refused>
         requires ready { IsReady self.old out.old }
         requires meets { Meets F.are_one self.old (packet source next) }
+        requires next { IsNext self.old (packet source next) }
         requires piece { next.piece ≡ None }
         requires marker { next.marker ≡ Some (mark_of marker) }
         ensures edges { length out.new ≡ length out.old }
