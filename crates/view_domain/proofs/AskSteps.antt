@@ -44,7 +44,7 @@ module _ (old new : Store) (copy key : Value) (is_key : datum_of copy ≡ datum_
   entry_same (Filled e) = refl
 
   pub begun_shown : LeadsTo (rows_at old) [] new
-  begun_shown = leads_same old new copy others (rows_at old) [] (ap entry_of own ∙ entry_same (state_of equal old copy)) (record { each = λ k. refl })
+  begun_shown = leads_same old new copy others (rows_at old) [] (ap entry_of own ∙ entry_same (state_of equal old copy)) (record { each = λ k. refl; fits = λ k. tt })
 
   idle : (st : State (List Cells)) → is_hole st ≡ false → begun n st ≡ st
   idle Hole h = absurd (true≢false h)

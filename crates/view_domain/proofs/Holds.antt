@@ -84,7 +84,7 @@ open_done d k new out s running stands clear count shown = record {
 }
 
 pub nothing_told : (first : Value → Option (List Cells)) (told : List KeyChange) (kept : Store) → told ≡ [] → ((key : Value) → rows_at kept key ≡ first key) → LeadsTo first told kept
-nothing_told first told kept none stays = rw none (record { each = stays })
+nothing_told first told kept none stays = rw none (record { each = stays; fits = λ k. tt })
 
 idle_done : (d : Domain) (k : Datum) (new : Store) (out : OutboxView) (b : Bool) → is_hole ((stands_of d.kept).at k) ≡ b → b ≡ false → d.mode ≡ mode.Running → stands_of new ≡ stands_of d.kept → IsClear out → length out.requests ≡ d.plan.stages → LeadsTo (rows_at d.kept) [] new
     → IsDone (want k) (cond b (begins (view_of d) k) (quiet (view_of d) (stands_of d.kept))) d out (record d { kept = new })
@@ -94,7 +94,7 @@ idle_done d k new out false h e running stands clear count leads = record {
   view = λ i. record (view_of d) { keys = stands i };
   requests = silent_edges out.requests d.plan.stages count clear.requests;
   acks = rw clear.ack refl;
-  shown = rw clear.shown (record { keys = leads; cut = refl; asked = refl });
+  shown = rw clear.shown (record { keys = leads; cut = refl; of = tt; asked = refl });
   running = running;
 }
 

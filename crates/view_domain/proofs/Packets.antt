@@ -1,5 +1,5 @@
 -- A packet that a view domain takes in: what it may, and what is then true.
-use Rattle.std.proofs.Common.{◌≡◌, ℕ, zero, suc, ◌+◌, ◌≤◌, ◌<◌, Bool, true, false, ◌||◌, List, [], ◌∷◌, map, length, Option, Some, None, slice_get, slice_set, get_or, IsTrue, refl, ap, sym, ◌∙◌, subst, arith, true≢false}
+use Rattle.std.proofs.Common.{◌≡◌, ℕ, zero, suc, ◌+◌, ◌≤◌, ◌<◌, Bool, true, false, ◌||◌, List, [], ◌∷◌, map, length, Option, Some, None, slice_get, slice_set, get_or, IsTrue, IfSome, refl, ap, sym, ◌∙◌, subst, arith, true≢false}
 use Rattle.row.specs.Bags.{Each, sorted}
 use Rattle.row.specs.BagChanges.{with_records}
 use Rattle.row.specs.Cells.{Datum, Cells, datum_of, row_cmp, same}
@@ -36,7 +36,7 @@ use Rattle.protocol.specs.ViewSteps.{again, ask, capped, counted, drop_all, give
 use Rattle.packet.specs.Truth.{Pointwise, Grows, Given, IsTrueStage, IsStagePiece, IsStillStage, IsTold, changes_at, key_of_piece, sent_of, view_shares}
 use Rattle.view_domain.specs.Codes.{GoesWith, IsFrom}
 use Rattle.view_domain.specs.Domains.{Domain, HoldsTruth, lines_of, view_of}
-use Rattle.view_domain.specs.Outboxes.{OutboxView, ShownView, new_line, put_line, keys_told, cut_after, asked_after}
+use Rattle.view_domain.specs.Outboxes.{OutboxView, ShownView, new_line, put_line, keys_told, line_told, cut_after, asked_after}
 use Rattle.view_domain.specs.Shown.{rows_at, LeadsTo}
 use Rattle.view_domain.specs.declared.shown.KeyChange.{KeyChange}
 use Rattle.view_domain.specs.Received.{IsDone, IsShown}
@@ -193,11 +193,17 @@ module _ (d : Domain) (s : ℕ) (x : StagePacketView) (is_plan : x.plan ≡ d.pl
     of = each_set (AreOf d.plan) d.cut s to (rw (← is_plan) of) holds.of;
   }
 
+  -- a line that is told has a front of each source
+  told_of_plan : (to : List LogView) (piece : Option Piece) (marker : Option Marker) → AreOf d.plan to → IfSome (new_line piece marker to) (AreOf d.plan)
+  told_of_plan to None None of = of
+  told_of_plan to None (Some m) of = tt
+  told_of_plan to (Some piece) m of = tt
+
   -- the line that is told leads there
-  pub line_told : (to : List LogView) (piece : Option Piece) (marker : Option Marker) → x.to ≡ entries_of to → Given piece (IsStillStage x) → Given (mark_in marker) (IsStillStage x) → lines_of (slice_set d.cut s to) ≡ put_line s (new_line piece marker to) (lines_of d.cut)
-  line_told to None None is_to a b = map_set entries_of d.cut s to
-  line_told to None (Some m) is_to a b = lines_set to is_to ∙ set_same (lines_of d.cut) s x.to (next ∙ ap Some b.line)
-  line_told to (Some piece) m is_to a b = lines_set to is_to ∙ set_same (lines_of d.cut) s x.to (next ∙ ap Some a.line)
+  pub told_leads : (to : List LogView) (piece : Option Piece) (marker : Option Marker) → x.to ≡ entries_of to → Given piece (IsStillStage x) → Given (mark_in marker) (IsStillStage x) → lines_of (slice_set d.cut s to) ≡ put_line s (new_line piece marker to) (lines_of d.cut)
+  told_leads to None None is_to a b = map_set entries_of d.cut s to
+  told_leads to None (Some m) is_to a b = lines_set to is_to ∙ set_same (lines_of d.cut) s x.to (next ∙ ap Some b.line)
+  told_leads to (Some piece) m is_to a b = lines_set to is_to ∙ set_same (lines_of d.cut) s x.to (next ∙ ap Some a.line)
 
   -- all is as the step says
   pub packet_done : (new : Store) (to : List LogView) (asked more tag cap : ℕ) (marks : MarksView) (requests : List Ask) (out : OutboxView) → d.mode ≡ mode.Running → x.to ≡ entries_of to → tag ≡ tag_of d.view → cap ≡ (view_at d.plan d.view).cap
@@ -220,12 +226,13 @@ module _ (d : Domain) (s : ℕ) (x : StagePacketView) (is_plan : x.plan ≡ d.pl
       }
 
   -- what is told of it leads there
-  pub packet_shown : (new : Store) (to : List LogView) (asked : ℕ) (marks : MarksView) (told : List KeyChange) (line : Option (List LogView)) (piece : Option Piece) (marker : Option Marker) (shown put : Option ShownView) → put ≡ shown → x.to ≡ entries_of to → x.piece ≡ piece
-      → x.marker ≡ mark_in marker → keys_told shown ≡ told → LeadsTo (rows_at d.kept) told new → ((cut : List Line) → cut_after shown cut ≡ put_line s line cut) → line ≡ new_line piece marker to → asked_after shown d.asked ≡ asked
+  pub packet_shown : (new : Store) (to : List LogView) (asked : ℕ) (marks : MarksView) (told : List KeyChange) (line : Option (List LogView)) (piece : Option Piece) (marker : Option Marker) (shown put : Option ShownView) → put ≡ shown → x.to ≡ entries_of to → AreOf x.plan to → x.piece ≡ piece
+      → x.marker ≡ mark_in marker → keys_told shown ≡ told → LeadsTo (rows_at d.kept) told new → line_told shown ≡ line → ((cut : List Line) → cut_after shown cut ≡ put_line s line cut) → line ≡ new_line piece marker to → asked_after shown d.asked ≡ asked
       → IsShown d put (record d { cut = slice_set d.cut s to; kept = new; asked = asked; marks = marks })
-  packet_shown new to asked marks told line piece marker shown put is is_to is_piece is_marker keys leads cut is_line count = rw is (record {
+  packet_shown new to asked marks told line piece marker shown put is is_to of is_piece is_marker keys leads tells cut is_line count = rw is (record {
     keys = rw keys leads;
-    cut = line_told to piece marker is_to (subst (λ o. Given o (IsStillStage x)) is_piece is_true.alone) (subst (λ o. Given o (IsStillStage x)) is_marker is_true.marker) ∙ (ap (λ l. put_line s l (lines_of d.cut)) (sym is_line) ∙ sym (cut (lines_of d.cut)));
+    cut = told_leads to piece marker is_to (subst (λ o. Given o (IsStillStage x)) is_piece is_true.alone) (subst (λ o. Given o (IsStillStage x)) is_marker is_true.marker) ∙ (ap (λ l. put_line s l (lines_of d.cut)) (sym is_line) ∙ sym (cut (lines_of d.cut)));
+    of = rw (tells, is_line) (told_of_plan to piece marker (rw (← is_plan) of));
     asked = sym count;
   })
 

@@ -43,6 +43,11 @@ abbrev pub keys_told : Option ShownView → List KeyChange
 keys_told None = []
 keys_told (Some s) = s.keys
 
+-- the new line that it tells, if it tells one
+abbrev pub line_told : Option ShownView → Option (List LogView)
+line_told None = None
+line_told (Some s) = s.line
+
 -- the cut that is shown after it
 abbrev pub cut_after : Option ShownView → List Line → List Line
 cut_after None cut = cut

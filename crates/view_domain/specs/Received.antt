@@ -1,13 +1,14 @@
 -- What a view domain makes of a message.
-use Rattle.std.specs.Prelude.{◌≡◌, ◌⊎◌, Some, Option, length, slice_get}
+use Rattle.std.specs.Prelude.{◌≡◌, ◌⊎◌, Some, Option, IfSome, length, slice_get}
 use Rattle.row.specs.declared.refused.Refused.{Refused}
 use Rattle.row.specs.declared.refused.Refused.TheVariants.{NoMemory, Gap}
 use Rattle.packet.specs.Codes.{marks_in}
+use Rattle.packet.specs.Lines.{AreOf}
 use Rattle.packet.specs.Outboxes.{packets_on}
 use Rattle.packet.specs.declared.mode.Mode.TheVariants as mode
 use Rattle.protocol.specs.Views.{ToView, packet, want, order, Done}
 use Rattle.view_domain.specs.Domains.{Domain, lines_of, view_of, stopped}
-use Rattle.view_domain.specs.Outboxes.{ShownView, OutboxView, IsClear, keys_told, cut_after, asked_after}
+use Rattle.view_domain.specs.Outboxes.{ShownView, OutboxView, IsClear, keys_told, line_told, cut_after, asked_after}
 use Rattle.view_domain.specs.Shown.{LeadsTo, rows_at}
 
 -- it runs, and the outbox is clear and has an edge to each stage shard
@@ -22,10 +23,11 @@ IsNext d (packet s p) = slice_get (lines_of d.cut) s ≡ Some p.from
 IsNext d (want k) = Unit {0}
 IsNext d (order k) = Unit {0}
 
--- what it tells its shown copy turns what was shown of the one into what is to be shown of the other
+-- what it tells its shown copy turns what was shown of the one into what is to be shown of the other; a line that it tells has a front of each source
 pub record IsShown (old : Domain) (s : Option ShownView) (new : Domain) : Type 0 where
   pub keys : LeadsTo (rows_at old.kept) (keys_told s) new.kept
   pub cut : lines_of new.cut ≡ cut_after s (lines_of old.cut)
+  pub of : IfSome (line_told s) (AreOf old.plan)
   pub asked : new.asked ≡ asked_after s old.asked
 
 -- all went as the definition says

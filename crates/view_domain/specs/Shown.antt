@@ -1,8 +1,9 @@
 -- What a view shard tells its shown copy of keys.
-use Rattle.std.specs.Prelude.{◌≡◌, List, [], ◌∷◌, Option, Some, None, if◌then◌else◌}
+use Rattle.std.specs.Prelude.{◌≡◌, true, List, [], ◌∷◌, Option, Some, None, if◌then◌else◌}
 use Rattle.std.specs.Option.{option_map}
 use Rattle.row.specs.Cells.{Datum, Cells}
 use Rattle.row.specs.BagChanges.{with_records}
+use Rattle.row.specs.Changes.{IsCovered}
 use Rattle.row.specs.Groups.{equal}
 use Rattle.row.specs.declared.value.Value.{Value}
 use Rattle.partial.specs.States.{Kept, state_of, entry_of}
@@ -28,6 +29,18 @@ abbrev pub shown_after : List KeyChange → Value → Option (List Cells) → Op
 shown_after [] key shown = shown
 shown_after (c ∷ cs) key shown = shown_after cs key (if equal (key_in c) key then turned c shown else shown)
 
+-- rows that are to change are shown, and have all that the records take away
+abbrev pub FitsShown : KeyChange → Option (List Cells) → Type 0
+FitsShown (Fills key rows) shown = Unit {0}
+FitsShown (Turns key records) None = ⊥
+FitsShown (Turns key records) (Some rows) = IsCovered rows records
+FitsShown (Goes key) shown = Unit {0}
+
+-- each of the changes of a key fits what is shown of it then
+abbrev pub FitAll : List KeyChange → Value → Option (List Cells) → Type 0
+FitAll [] key shown = Unit {0}
+FitAll (c ∷ cs) key shown = (equal (key_in c) key ≡ true → FitsShown c shown) × FitAll cs key (if equal (key_in c) key then turned c shown else shown)
+
 -- a filled key that an eviction has made a hole goes
 abbrev pub gone_by : Evicted → Value → List KeyChange
 gone_by said.Nothing key = []
@@ -44,6 +57,7 @@ asked_by said.Entry k = []
 abbrev pub rows_at : Kept Value (List Cells) → Value → Option (List Cells)
 rows_at kept key = entry_of (state_of equal kept key)
 
--- from what was shown first of each key the changes lead to what is filled
+-- from what was shown first of each key the changes, which fit, lead to what is filled
 pub record LeadsTo (first : Value → Option (List Cells)) (changes : List KeyChange) (kept : Kept Value (List Cells)) : Type 0 where
   pub each : (key : Value) → rows_at kept key ≡ shown_after changes key (first key)
+  pub fits : (key : Value) → FitAll changes key (first key)

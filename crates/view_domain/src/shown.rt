@@ -2,7 +2,7 @@
 ghost use Rattle.std.specs.Prelude.{◌≡◌, List};
 ghost use Rattle.std.specs.Option.{option_map};
 ghost use Rattle.model.specs.Queries.{Line as LineView};
-ghost use Rattle.view_domain.specs.Outboxes.{asked_after, cut_after, keys_told, put_line};
+ghost use Rattle.view_domain.specs.Outboxes.{asked_after, cut_after, keys_told, line_told, put_line};
 
 use crate::groups::Group;
 use model::fronts::Fronts;
@@ -55,6 +55,7 @@ impl<F: Fronts> ShownChange<F> {
         asked: u64,
     ) -> Option<ShownChange<F>>
         ensures keys { keys_told result ≡ keys.items }
+        ensures line { line_told result ≡ line }
         ensures cut { (cut : List LineView) → cut_after result cut ≡ put_line stage line cut }
         ensures asked { asked_after result was ≡ asked }
     {

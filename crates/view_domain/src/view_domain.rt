@@ -147,9 +147,10 @@ impl<'p, F: Fronts> ViewDomain<'p, F> {
         self.kept.get(key)
     }
 
-    /// The line of each stage shard. Constant time.
+    /// The line of each stage shard: unless it is broken, with a front of each source. Constant time.
     pub fn cut(&self) -> &[Line<F>]
-        ensures { result.now ≡ self.now.cut }
+        ensures cut { result.now ≡ self.now.cut }
+        ensures of { self.now.mode ≢ Mode.Broken → Each (AreOf self.now.plan) result.now }
     {
         &self.cut
     }

@@ -9,7 +9,7 @@ use Rattle.view_domain.proofs.keys.change_key.Goals as goal
 
 pub returns-clause-shown : goal.returns-clause-shown
 returns-clause-shown c = λ first h. on_ok_weaker c.tell_if.result
-    (λ p. leads_changed first c.args.told.now.items c.tell_if.new.told.items c.args.key c.args.kept.now c.apply.new.self c.args.source c.args.group c.is_some-shown.result
+    (λ p. leads_changed first c.args.told.now.items c.tell_if.new.told.items c.args.key c.args.kept.now c.apply.new.self c.args.source c.args.group c.is_some-shown.result c.requires
     (c.in_ok-apply.ensures.applied ∙ (after_items (λ v. v.items) with_records c.args.source c.records.result.now (state_of equal c.args.kept.now c.args.key) ∙ ap (λ r. after_change with_records c.args.source r (state_of equal c.args.kept.now c.args.key)) c.records.ensures))
     c.in_ok-apply.ensures.others (c.is_some-shown.ensures ∙ (copied_some c.get.result ∙ ap is_some c.get.ensures)) p h) c.tell_if.ensures
 

@@ -13,4 +13,4 @@ loop-line-preserved g c = record {
 
 pub returns : goal.returns
 returns g c =
-    c.new.ensures ∙ (c.loop-line.invariant.cut ∙ (cut_whole c.cut-line-items.result.now c.loop-line.line-index c.loop-line-test.false ∙ ap (λ x. lengths_of (lines_of x)) c.cut-line-items.ensures))
+    c.new.ensures ∙ (c.loop-line.invariant.cut ∙ (cut_whole c.cut-line-items.result.now c.loop-line.line-index c.loop-line-test.false ∙ ap (λ x. lengths_of (lines_of x)) c.cut-line-items.ensures.cut))

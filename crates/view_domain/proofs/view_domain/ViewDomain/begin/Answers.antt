@@ -23,5 +23,6 @@ returns-clause-done g c =
     c.in-Ok-put_to_each.ensures.requests (c.in-Ok-put_to_each.ensures.ack ∙ c.requires.ready.clear.ack) (rw c.in-Ok-put_to_each.ensures.shown (record {
       keys = rw (c.of-shown.ensures.keys, c.new.ensures.items) c.in-Ok.ensures.shown;
       cut = sym (c.of-shown.ensures.cut (lines_of c.self.inside.cut.items));
+      of = rw c.of-shown.ensures.line tt;
       asked = sym c.of-shown.ensures.asked;
     })))

@@ -13,5 +13,6 @@ returns-clause-done g c = rw (c.put_shown.ensures, ← c.self.view_is)
     (open_done _ (datum_of c.args.key) c.open_key.new.kept c.args.out.now c.of.result (rw (← c.self.view_is) at c.requires.ready.running) c.open_key.ensures.stands c.requires.ready.clear (rw (← c.self.view_is) at c.requires.ready.edges) (record {
       keys = rw c.of.ensures.keys (c.in-Ok.ensures.shown (rows_at c.self.inside.kept) (nothing_told (rows_at c.self.inside.kept) c.new-told.result.items c.self.inside.kept c.new-told.ensures.items (λ k. refl)));
       cut = sym (c.of.ensures.cut (lines_of c.self.inside.cut.items));
+      of = rw c.of.ensures.line tt;
       asked = sym c.of.ensures.asked;
     }))
