@@ -53,10 +53,10 @@ every_schedule by_key p g events =
 
 -- ---- packets in turn
 -- all holds of a world for some events and some history
-record IsGood (w : World) : Type 0 where
-  past : List Event
-  history : List Item
-  good : Good w past history
+pub record IsGood (w : World) : Type 0 where
+  pub past : List Event
+  pub history : List Item
+  pub good : Good w past history
 
 moved_good : (ms : List Move) (w : World) → IsGood w → IsGood (world_after w ms)
 moved_good [] w g = g
@@ -67,7 +67,7 @@ moved_good (comes wire ∷ ms) w g =
     let t = delivers w g.past g.history wire g.good in
     moved_good ms (delivery w wire).world (record { past = g.past; history = g.history ++ t.is; good = t.kept.good })
 
-reached_good : (w : World) → IsReached w → IsGood w
+pub reached_good : (w : World) → IsReached w → IsGood w
 reached_good w r = subst IsGood (sym r.after) (moved_good r.moves (start r.by_key r.plan) (record { past = []; history = []; good = start_good r.by_key r.plan r.good }))
 
 -- a packet that is the first for a domain that runs begins at the front that the domain holds

@@ -11,7 +11,8 @@ use Rattle.view_domain.specs.Domains.{lines_of}
 use Rattle.protocol.specs.Edges.{pairs}
 use Rattle.row.specs.declared.refused.Refused.TheVariants.{Behind}
 use Rattle.protocol.specs.Events.{Reply, delivered, fenced, refused}
-use Rattle.protocol.specs.Worlds.{World, Fence}
+use Rattle.protocol.specs.Bases.{Base}
+use Rattle.protocol.specs.Worlds.{Node, World, Caller, Fence}
 use Rattle.protocol.specs.WorldSteps.{Did, says, with_caller, ack_of, ack_from, fence_told, fence_over, lengths_of, is_covered, covers, holds_own, own_in, raised}
 use Rattle.protocol.proofs.Lists.{map_set, map_get, set_same}
 use Rattle.schedule.specs.Sessions as session
@@ -103,8 +104,11 @@ module _ (w : World) (se : ℕ) (s : Session) (knows : (b : ℕ) → slice_index
       by true = told_is number (slice_set f.acks r (Some cut))
       by false = stays at
 
+-- ---- a session has changed
+pub knows_still : (nodes : List (Node Base)) (se : ℕ) (s t : Session) → t.own ≡ s.own → KnowsOwn nodes se s → KnowsOwn nodes se t
+knows_still nodes se s t same k = record { size = ap length same ∙ k.size; each = λ b. ap (λ own. slice_index_or own b 0) same ∙ k.each b }
+
 module _ {F : Type 0} (log : F → LogView) (authors : F → List Author) where
-  -- ---- a session has changed
   abbrev pub with_session : Held F → ℕ → Session → Held F
   with_session h se s = record h { sessions = slice_set h.sessions se s }
 
@@ -125,14 +129,16 @@ module _ {F : Type 0} (log : F → LogView) (authors : F → List Author) where
       let there = map_get (λ (x : Session). x.is) h.sessions se s at in
       let told = session.acknowledged h.plan se s s.is.fence number r cut in
       let d : ack_from w se (slice_get w.callers se) number r cut ≡ record { world = with_caller w se told.is; reply = told.reply }
-      = ap (λ o. ack_from w se o number r cut) there ∙ sym (ack_is w se s knows there s.is.fence number r cut) in
+      = ap (λ o. ack_from w se o number r cut) there ∙ sym (ack_is w se s knows.each there s.is.fence number r cut) in
       subst (λ d. IsDone log authors d reply (with_session h se new)) (sym d)
       (record {
         world = session_world h se new ∙ ap (λ (x : Session). with_caller w se x.is) is;
         reply = says;
-        placed = session_placed h se new p (subst (KnowsOwn (map (base_node log authors) h.bases) se) (sym is) knows);
+        placed = session_placed h se new p (knows_still (map (base_node log authors) h.bases) se s new (ap (λ (x : Session). x.own) is) knows);
       })
 
-  pub ack_none : (h : Held F) (se number r : ℕ) (cut : Lengths) → IsPlaced log authors h → length h.sessions ≤ se → IsDone log authors (ack_from (world_of log authors h) se (slice_get (world_of log authors h).callers se) number r cut) delivered h
-  ack_none h se number r cut p le =
-      subst (λ o. IsDone log authors (ack_from (world_of log authors h) se o number r cut) delivered h) (sym (past_end (λ (x : Session). x.is) h.sessions se le)) (record { world = refl; reply = refl; placed = p })
+  -- there is no such session
+  pub stranger : (h : Held F) (se : ℕ) (f : Option Caller → Did) (reply : Reply) → f None ≡ says (world_of log authors h) reply → IsPlaced log authors h → length h.sessions ≤ se → IsDone log authors (f (slice_get (world_of log authors h).callers se)) reply h
+  stranger h se f reply none p le =
+      subst (λ o. IsDone log authors (f o) reply h) (sym (past_end (λ (x : Session). x.is) h.sessions se le))
+      (subst (λ d. IsDone log authors d reply h) (sym none) (record { world = refl; reply = refl; placed = p }))

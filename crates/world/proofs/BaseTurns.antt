@@ -115,3 +115,7 @@ module _ {F : Type 0} (log : F → LogView) (authors : F → List Author) where
       → IsBaseTurn log authors (log old.front).plan (log old.front).base (step (base_at log authors old) m) before new after
   base_turn old new m out before after sixteen (inl done) not stay put = turn_done old new m out before after sixteen done stay put
   base_turn old new m out before after sixteen (inr refused) not stay put = absurd (not refused.reply)
+
+  pub base_reply : (old new : Domain F) (m : ToBase) (out : OutboxView F) → Goes log authors m old (step (base_at log authors old) m) out new → (verdict_of out.reply ≢ Some (declined NoMemory)) → verdict_of out.reply ≡ (step (base_at log authors old) m).reply
+  base_reply old new m out (inl done) not = done.reply
+  base_reply old new m out (inr refused) not = absurd (not refused.reply)

@@ -2,11 +2,12 @@
 use Rattle.std.proofs.Common.{Bool, true, false, cond, nat_le, ◌≡◌, ℕ, ◌+◌, ◌<◌, ◌≤◌, List, [], ◌∷◌, ◌++◌, map, length, take, Some, None, slice_get, slice_index_or, refl, ap, sym, ◌∙◌, subst, arith}
 use Rattle.std.proofs.lemmas.Bool.Decides.{nat_tests}
 use Rattle.std.proofs.lemmas.List.{map_more, take_all}
+use Rattle.row.specs.declared.refused.Refused.{Refused}
 use Rattle.plan.specs.Layouts.{Layout, view_named}
 use Rattle.model.specs.Fronts.{LogView}
 use Rattle.model.specs.Histories.{Author}
 use Rattle.model.specs.Refusals.{view_refusal}
-use Rattle.protocol.specs.Events.{asked}
+use Rattle.protocol.specs.Events.{asked, refused}
 use Rattle.protocol.specs.Views.{View}
 use Rattle.protocol.specs.ViewSteps.{counted, most}
 use Rattle.protocol.specs.Worlds.{Node}
@@ -15,7 +16,7 @@ use Rattle.protocol.proofs.Lists.{map_get}
 use Rattle.schedule.specs.Sessions.{Session}
 use Rattle.view_domain.specs.Domains.{Domain as ViewDomain}
 use Rattle.world.specs.Held.{Held, IsPlaced, IsDone, world_of, view_node}
-use Rattle.world.proofs.Looking.{stands}
+use Rattle.world.proofs.Looking.{answered, stands}
 
 -- ---- sums that stay at a greatest number
 abbrev upto : ℕ → ℕ → ℕ → ℕ
@@ -84,3 +85,9 @@ module _ {F : Type 0} (log : F → LogView) (authors : F → List Author) where
       let all : count_by w (slice_get w.callers se) view ≡ count_in w (Some i) None
       = ap (λ o. count_by w o view) there ∙ ap (λ v. count_in w v (view_refusal v)) (subst (λ q. view_named q view ≡ Some i) same named) in
       subst (λ x. IsDone log authors x (asked n) h) (sym all) (record { world = refl; reply = ap asked is; placed = p })
+
+  pub count_refused : (h : Held F) (se : ℕ) (view : List ℕ) (e : Refused) (q : Layout) → q ≡ h.plan → IsPlaced log authors h → se < length h.sessions → view_refusal (view_named q view) ≡ Some e
+      → IsDone log authors (count_by (world_of log authors h) (slice_get (world_of log authors h).callers se) view) (refused e) h
+  count_refused h se view e q same p lt why =
+      let w = world_of log authors h in
+      answered log authors h se (λ o. count_by w o view) (refused e) (λ c. ap (count_in w (view_named h.plan view)) (subst (λ q. view_refusal (view_named q view) ≡ Some e) same why)) p lt

@@ -1,5 +1,5 @@
 -- What a fence makes of the world.
-use Rattle.std.proofs.Common.{true, false, cond, ◌&&◌, ◌≡◌, ℕ, suc, List, map, Some, slice_get, slice_set, slice_index_or, refl, ap, sym, ◌∙◌, subst}
+use Rattle.std.proofs.Common.{true, false, cond, ◌&&◌, ◌≡◌, ℕ, suc, List, map, Some, slice_get, slice_set, refl, ap, sym, ◌∙◌, subst}
 use Rattle.row.specs.declared.refused.Refused.TheVariants.{Stopped}
 use Rattle.model.specs.Fronts.{LogView}
 use Rattle.model.specs.Histories.{Author}
@@ -11,10 +11,10 @@ use Rattle.protocol.proofs.Lists.{map_get}
 use Rattle.schedule.specs.Sessions.{Session}
 use Rattle.world.specs.Held.{Held, IsPlaced, IsDone, KnowsOwn, world_of, base_node}
 use Rattle.world.specs.Rounds.{IsAt}
-use Rattle.world.proofs.Acks.{session_world, session_placed}
+use Rattle.world.proofs.Acks.{knows_still, session_world, session_placed}
 
 -- a session that has taken a number
-abbrev called : Session → Session
+abbrev pub called : Session → Session
 called s = record s { is = record s.is { number = suc s.is.number } }
 
 module _ {F : Type 0} (log : F → LogView) (authors : F → List Author) where
@@ -26,7 +26,7 @@ module _ {F : Type 0} (log : F → LogView) (authors : F → List Author) where
     there = map_get (λ (x : Session). x.is) h.sessions se s at
 
     knows : (t : Session) → t.own ≡ s.own → KnowsOwn (map (base_node log authors) h.bases) se t
-    knows t same = λ b. ap (λ own. slice_index_or own b 0) same ∙ p.sessions.each se s at b
+    knows t same = knows_still (map (base_node log authors) h.bases) se s t same (p.sessions.each se s at)
 
     pub fence_refused : (one : Session) → one ≡ called s → (lower_run w && all_run w.views) ≡ false → IsDone log authors (fence_by w se (slice_get w.callers se)) (refused Stopped) (record h { sessions = slice_set h.sessions se one })
     fence_refused one is down =

@@ -15,3 +15,8 @@ mod Fenced
 mod Stopping
 mod Looking
 mod Counting
+mod Wanting
+mod Writing
+mod Starting
+mod Listing
+mod Replaying

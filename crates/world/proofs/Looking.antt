@@ -3,6 +3,7 @@ use Rattle.std.proofs.Common.{true, false, cond, Bool, ◌≡◌, ℕ, zero, suc
 use Rattle.std.specs.Option.{IfSome}
 use Rattle.row.specs.Cells.{Datum, Cells, datum_of}
 use Rattle.row.specs.Groups.{equal}
+use Rattle.row.specs.declared.refused.Refused.{Refused}
 use Rattle.row.specs.declared.value.Value.{Value}
 use Rattle.plan.specs.Layouts.{Layout, view_named}
 use Rattle.model.specs.Fronts.{LogView}
@@ -13,15 +14,15 @@ use Rattle.partial.specs.States.{Kept, State, Hole, Waiting, Filled, state_of, e
 use Rattle.packet.specs.Keys.{stands_of, stand_of}
 use Rattle.packet.proofs.KeptKeys.{stand_is}
 use Rattle.packet.specs.Readers.{Reader, readers}
-use Rattle.protocol.specs.Events.{Reply, hit, miss}
+use Rattle.protocol.specs.Events.{Reply, hit, miss, refused}
 use Rattle.protocol.specs.Worlds.{Caller, World}
 use Rattle.protocol.specs.WorldSteps.{Did, says, with_caller, lengths_of, looked, reader_of, try_in, try_by}
 use Rattle.protocol.proofs.Lists.{map_get}
 use Rattle.schedule.specs.Sessions.{Session}
 use Rattle.view_domain.specs.Domains.{Domain as ViewDomain, lines_of}
 use Rattle.view_domain.specs.Shown.{rows_at}
-use Rattle.world.specs.Held.{Held, IsPlaced, IsDone, IsViewOf, KnowsOwn, world_of, view_node, base_node}
-use Rattle.world.proofs.Acks.{with_session, session_world, session_placed}
+use Rattle.world.specs.Held.{Held, IsPlaced, IsDone, IsViewOf, world_of, view_node, base_node}
+use Rattle.world.proofs.Acks.{knows_still, with_session, session_world, session_placed}
 
 -- ---- a key
 entry_filled : {E : Type 0} (st : State E) → is_some (entry_of st) ≡ is_filled (stand_of st)
@@ -111,7 +112,7 @@ module _ {F : Type 0} (log : F → LogView) (authors : F → List Author) where
         (record {
           world = session_world log authors h se new ∙ ap (with_caller w se) is;
           reply = ap (λ x. hit x cut) all ∙ ap (hit (answer h.plan (lines_of d.cut) i k)) cut-is;
-          placed = session_placed log authors h se new p (subst (KnowsOwn (map (base_node log authors) h.bases) se) (sym new-is) (p.sessions.each se s own));
+          placed = session_placed log authors h se new p (knows_still (map (base_node log authors) h.bases) se s new (ap (λ (x : Session). x.own) new-is) (p.sessions.each se s own));
         })
 
   pub reader_there : (h : Held F) (r : ℕ) (x : Reader) → IsPlaced log authors h → slice_get (readers h.plan) r ≡ Some x → r < length h.views
@@ -131,3 +132,17 @@ module _ {F : Type 0} (log : F → LogView) (authors : F → List Author) where
       ∙ (ap (λ v. try_in w se (s.0).is v k None) (subst (λ q. view_named q view ≡ Some i) same named)
       ∙ ap (λ q. looked w se (s.0).is i k q (slice_get w.views q)) (sym is))) in
       subst (λ x. IsDone log authors x reply last) (sym all) (done (s.0).is there)
+
+  -- ---- the arguments of a session are refused
+  pub answered : (h : Held F) (se : ℕ) (f : Option Caller → Did) (reply : Reply) → ((c : Caller) → f (Some c) ≡ says (world_of log authors h) reply) → IsPlaced log authors h → se < length h.sessions
+      → IsDone log authors (f (slice_get (world_of log authors h).callers se)) reply h
+  answered h se f reply is p lt =
+      let s = stands h.sessions se lt in
+      subst (λ o. IsDone log authors (f o) reply h) (sym (map_get (λ (x : Session). x.is) h.sessions se s.0 s.1))
+      (subst (λ d. IsDone log authors d reply h) (sym (is (s.0).is)) (record { world = refl; reply = refl; placed = p }))
+
+  pub try_refused : (h : Held F) (se : ℕ) (view : List ℕ) (k : Datum) (e : Refused) (q : Layout) → q ≡ h.plan → IsPlaced log authors h → se < length h.sessions → read_refusal q (view_named q view) k ≡ Some e
+      → IsDone log authors (try_by (world_of log authors h) se (slice_get (world_of log authors h).callers se) view k) (refused e) h
+  try_refused h se view k e q same p lt why =
+      let w = world_of log authors h in
+      answered h se (λ o. try_by w se o view k) (refused e) (λ c. ap (try_in w se c (view_named h.plan view) k) (subst (λ q. read_refusal q (view_named q view) k ≡ Some e) same why)) p lt

@@ -1,5 +1,5 @@
 -- The first message of an edge is for the domain at its end, and in turn.
-use Rattle.std.proofs.Common.{true, ◌≡◌, ℕ, zero, suc, ◌<◌, List, [], ◌∷◌, map, length, Some, slice_get, slice_set, slice_index_or, take, refl, ap, sym, ◌∙◌, subst, arith, inl}
+use Rattle.std.proofs.Common.{Bool, true, ◌≡◌, ℕ, zero, suc, ◌<◌, List, [], ◌∷◌, map, length, Some, slice_get, slice_set, slice_index_or, take, refl, ap, sym, ◌∙◌, subst, arith, inl}
 use Rattle.std.proofs.lemmas.List.{length-map, take_all}
 use mathlib.Core.List.{IsPrefix}
 use Rattle.plan.specs.Layouts.{Layout}
@@ -15,6 +15,8 @@ use Rattle.packet.specs.declared.mode.Mode.TheVariants as mode
 use Rattle.protocol.specs.Edges.{queue}
 use Rattle.protocol.specs.Laws.{IsNext}
 use Rattle.protocol.specs.Stages.{packet}
+use Rattle.protocol.specs.Worlds.{Node}
+use Rattle.protocol.specs.WorldSteps.{is_up}
 use Rattle.protocol.proofs.Every.{every_turn}
 use Rattle.protocol.proofs.Lists.{map_get, or_of}
 use Rattle.stage_domain.specs.Domains.{Domain as StageDomain, stage_of, Meets, IsFrom, log_of}
@@ -32,6 +34,13 @@ pub set_or : {X : Type 0} (xs : List X) (i : ℕ) (x d : X) → i < length xs �
 set_or [] i x d lt = absurd (omega (arith, lt))
 set_or (y ∷ xs) zero x d lt = refl
 set_or (y ∷ xs) (suc i) x d lt = set_or xs i x d (omega (arith, lt))
+
+-- what was seen of a list holds of an equal one
+pub seen_up : {D X : Type 0} (f : D → Node X) (xs ys : List D) (i : ℕ) (b : Bool) → b ≡ is_up (slice_get (map f xs) i) → xs ≡ ys → is_up (slice_get (map f ys) i) ≡ b
+seen_up f xs ys i b is same = sym (is ∙ ap (λ zs. is_up (slice_get (map f zs) i)) same)
+
+pub seen_there : {D : Type 0} (xs ys : List D) (i : ℕ) → i < length xs → xs ≡ ys → i < length ys
+seen_there xs ys i lt same = subst (λ zs. i < length zs) same lt
 
 pub mode_runs : (m : Mode) → runs m ≡ true → m ≡ mode.Running
 mode_runs mode.Running e = refl

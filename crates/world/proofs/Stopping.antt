@@ -1,5 +1,5 @@
 -- What the stop of a domain makes of the world.
-use Rattle.std.proofs.Common.{true, false, cond, ◌≡◌, ◌≢◌, ℕ, zero, suc, ◌≤◌, List, [], ◌∷◌, map, length, Some, slice_get, slice_set, refl, ap, sym, ◌∙◌, subst}
+use Rattle.std.proofs.Common.{true, false, cond, ◌≡◌, ◌≢◌, ℕ, zero, suc, ◌≤◌, List, [], ◌∷◌, map, length, Option, Some, None, slice_get, slice_set, refl, ap, sym, ◌∙◌, subst}
 use Rattle.plan.specs.Layouts.{Layout}
 use Rattle.plan.specs.declared.domain.DomainId.{DomainId}
 use Rattle.plan.specs.declared.domain.DomainId.TheVariants as domain
@@ -14,7 +14,7 @@ use Rattle.protocol.specs.Edges.{is_there, place_or, reader_place}
 use Rattle.protocol.specs.Events.{refused, stopped}
 use Rattle.protocol.specs.Worlds.{Node, World}
 use Rattle.protocol.specs.WorldSteps.{says, off, off_at, after_own, own_in, stops, stop_at}
-use Rattle.protocol.proofs.Lists.{map_set, map_get}
+use Rattle.protocol.proofs.Lists.{map_set, map_get, set_size}
 use Rattle.row.specs.declared.refused.Refused.TheVariants.{UnknownPlace}
 use Rattle.base_domain.specs.Domains.{Domain as BaseDomain}
 use Rattle.schedule.specs.Codes.{spot_of}
@@ -77,6 +77,7 @@ module _ {F : Type 0} (log : F → LogView) (authors : F → List Author) where
   base_stops h b old new p at is =
       let f = base_node log authors in
       let o = p.bases.each b old at in
+      let many : length (map f (slice_set h.bases b new)) ≡ length (map f h.bases) = ap length (map_set f h.bases b new) ∙ set_size (map f h.bases) b (f new) in
       let own : (se c : ℕ) → own_in se (slice_get (map f (slice_set h.bases b new)) c) ≡ own_in se (slice_get (map f h.bases) c)
       = λ se c. ap (λ ns. own_in se (slice_get ns c)) (map_set f h.bases b new ∙ ap (slice_set (map f h.bases) b) (ap f is)) ∙ own_off (map f h.bases) b (f old) (map_get f h.bases b old at) se c in
       record {
@@ -90,7 +91,7 @@ module _ {F : Type 0} (log : F → LogView) (authors : F → List Author) where
           to_stage = p.to_stage;
           to_view = p.to_view;
           from_view = p.from_view;
-          sessions = record { size = p.sessions.size; each = λ se s there b. p.sessions.each se s there b ∙ sym (own se b) };
+          sessions = record { size = p.sessions.size; each = λ se s there. record { size = (p.sessions.each se s there).size ∙ sym many; each = λ b. (p.sessions.each se s there).each b ∙ sym (own se b) } };
         };
       }
 
@@ -155,3 +156,13 @@ module _ {F : Type 0} (log : F → LogView) (authors : F → List Author) where
       let same : r ≡ place_or (reader_place h.plan i j) = cc in
       let w = world_of log authors h in
       subst (λ x. IsDone log authors x stopped last) (sym (stop_there w (domain.View i j) there)) (subst (λ i. IsDone log authors (says (record w { views = off_at i (slice_get w.views i) w.views }) stopped) stopped last) same done)
+
+  -- ---- the plan has no such domain
+  pub stop_none : (h : Held F) (o : Option DomainId) → IsPlaced log authors h → o ≡ None → IsDone log authors (stop_at (world_of log authors h) o) (refused UnknownPlace) h
+  stop_none h o p is = subst (λ o. IsDone log authors (stop_at (world_of log authors h) o) (refused UnknownPlace) h) (sym is) (record { world = refl; reply = refl; placed = p })
+
+  pub stop_other : (h : Held F) (o : Option DomainId) (d : DomainId) → IsPlaced log authors h → o ≡ Some d → is_there h.plan d ≡ false → IsDone log authors (stop_at (world_of log authors h) o) (refused UnknownPlace) h
+  stop_other h o d p is not =
+      let w = world_of log authors h in
+      subst (λ o. IsDone log authors (stop_at w o) (refused UnknownPlace) h) (sym is)
+      (subst (λ b. IsDone log authors (cond b (says (stops w d) stopped) (says w (refused UnknownPlace))) (refused UnknownPlace) h) (sym not) (record { world = refl; reply = refl; placed = p }))

@@ -94,8 +94,9 @@ abbrev pub AreQueued : {X : Type 0} → (ℕ → ℕ → X → Type 0) → List 
 AreQueued Is queues = (r i : ℕ) → Each (Is r i) (queue queues r i)
 
 -- the session knows where its last entry stands in each log
-abbrev pub KnowsOwn : List (Node Base) → ℕ → Session → Type 0
-KnowsOwn bases se s = (b : ℕ) → slice_index_or s.own b 0 ≡ own_in se (slice_get bases b)
+pub record KnowsOwn (bases : List (Node Base)) (se : ℕ) (s : Session) : Type 0 where
+  pub size : length s.own ≡ length bases
+  pub each : (b : ℕ) → slice_index_or s.own b 0 ≡ own_in se (slice_get bases b)
 
 module _ {F : Type 0} (log : F → LogView) (authors : F → List Author) where
   abbrev pub base_node : BaseDomain F → Node Base

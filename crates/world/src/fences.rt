@@ -97,7 +97,7 @@ fn source_at(places: &Places, at: usize) -> usize
 }
 
 /// Whether all stage shards run.
-pub(crate) fn stages_run<F: Fronts>(stages: &[StageDomain<F>]) -> bool
+fn stages_run<F: Fronts>(stages: &[StageDomain<F>]) -> bool
     ensures { result ≡ all_run (map stage_node stages.now) }
 {
     stages.iter().all(|domain| goes_on(domain.mode()))
@@ -155,20 +155,28 @@ pub(crate) fn fence<F: Fronts>(
     Ok(Reply::FenceSent)
 }
 
+/// Whether all sources and all stage shards run.
+pub(crate) fn lower_runs<F: Fronts>(machine: &Machine<F>) -> bool
+    ensures { result ≡ lower_run (world_of F.log F.authors (held machine.now)) }
+{
+    let stages = stages_run(&machine.stages);
+    let bases = bases_run(&machine.bases, machine.places.sources());
+    are_both(stages, bases)
+}
+
 /// Whether all sources, all stage shards and all view shards run.
 fn is_up<F: Fronts>(machine: &Machine<F>) -> bool
     ensures { result ≡ (lower_run (world_of F.log F.authors (held machine.now))
         && all_run (world_of F.log F.authors (held machine.now)).views) }
 {
-    let stages = stages_run(&machine.stages);
-    let bases = bases_run(&machine.bases, machine.places.sources());
+    let lower = lower_runs(machine);
     let views = views_run(&machine.views);
-    are_all(stages, bases, views)
+    are_both(lower, views)
 }
 
-/// Whether all three are so.
-fn are_all(stages: bool, bases: bool, views: bool) -> bool
-    ensures { result ≡ ((stages && bases) && views) }
+/// Whether both are so.
+pub(crate) fn are_both(lower: bool, upper: bool) -> bool
+    ensures { result ≡ (lower && upper) }
 {
-    stages && bases && views
+    lower && upper
 }

@@ -3,11 +3,16 @@
 
 mod counts;
 mod deliveries;
+mod events;
 mod fences;
 mod machine;
 mod orders;
 mod reads;
 mod settles;
+mod starts;
 mod stops;
 mod turns;
 mod views;
+mod wants;
+pub mod world;
+mod writes;

@@ -5,7 +5,7 @@ use Rattle.schedule.specs.Codes.{reader_in}
 use Rattle.world.specs.Held.{stage_node}
 use Rattle.world.specs.Machines.{held}
 use Rattle.world.proofs.Meeting.{there_at, mode_runs, own_place, as_many, meets_packet}
-use Rattle.world.proofs.Steps.{source_passed}
+use Rattle.world.proofs.Steps.{source_passed, source_still}
 use Rattle.world.proofs.deliveries.pass_packet.Goals as goal
 
 abbrev at : (g : _) (c : goal.After-turn_stage-arg-1 g) → slice_get c.args.machine.now.stages.items c.args.stage ≡ Some c.index_mut.result.now
@@ -35,3 +35,6 @@ returns g c =
       done = source_passed g.F.Fronts.log g.F.Fronts.authors (held c.args.machine.now) c.args.stage c.args.source c.in-Some.packet c.take.new.self c.index_mut.result.now c.turn_stage.new.domain c.turn_stage.new.queues
           c.requires.whole.placed c.in-Some.ensures.first at running c.in_ok-turn_stage.ensures.turn;
     }
+
+pub returns-in_default : goal.returns-in_default
+returns-in_default g c = record { done = source_still g.F.Fronts.log g.F.Fronts.authors (held c.args.machine.now) c.args.stage c.args.source c.take.new.self c.requires.whole.placed c.in_default.ensures.none c.in_default.ensures.same }

@@ -7,7 +7,7 @@ use Rattle.world.specs.Held.{stage_node, IsAsk}
 use Rattle.world.proofs.Queued.{first_queued}
 use Rattle.world.specs.Machines.{held}
 use Rattle.world.proofs.Meeting.{there_at, mode_runs, own_place, as_many}
-use Rattle.world.proofs.Steps.{request_passed}
+use Rattle.world.proofs.Steps.{request_passed, request_still}
 use Rattle.world.proofs.deliveries.pass_request.Goals as goal
 
 pub returns : goal.returns
@@ -35,3 +35,6 @@ turn_stage-requires-clause-runs g c =
 
 pub turn_stage-requires-clause-is : goal.turn_stage-requires-clause-is
 turn_stage-requires-clause-is g c = own_place c.args.machine.now.places c.args.stage c.index_mut.result.now (c.requires.whole.placed.stages.each c.args.stage c.index_mut.result.now (at g c))
+
+pub returns-in_default : goal.returns-in_default
+returns-in_default g c = record { done = request_still g.F.Fronts.log g.F.Fronts.authors (held c.args.machine.now) c.args.stage c.args.reader c.take.new.self c.requires.whole.placed c.in_default.ensures.none c.in_default.ensures.same }

@@ -1,7 +1,12 @@
-use Rattle.std.proofs.Common.{Some, ap, sym, ◌∙◌, arith}
+use Rattle.std.proofs.Common.{Some, refl, ap, sym, ◌∙◌, arith}
 use Rattle.world.specs.Machines.{held}
 use Rattle.world.proofs.Fenced.{fence_refused, fence_goes, opened_placed}
 use Rattle.world.proofs.Meeting.{there_at}
+use Rattle.row.specs.declared.refused.Refused.TheVariants.{UnknownPlace}
+use Rattle.protocol.specs.Events.{refused}
+use Rattle.protocol.specs.WorldSteps.{fence_by}
+use Rattle.world.specs.Held.{world_of}
+use Rattle.world.proofs.Acks.{stranger}
 use Rattle.world.proofs.fences.fence.Goals as goal
 
 pub returns-then-not-is_up : goal.returns-then-not-is_up
@@ -21,3 +26,8 @@ returns g c =
       done = fence_goes g.F.Fronts.log g.F.Fronts.authors (held c.args.machine.now) c.args.session c.index_mut-caller.result.now c.requires.whole.placed at c.take_number-2.new.self c.open_fence.new.self c.in_ok-number.number c.in_ok-number.ensures.next c.in_ok-number.ensures.number c.in-Ok.ensures.opened
           (held c.mark_all.new.machine) (sym c.if-not-is_up.ensures) c.in_ok-mark_all.ensures.done;
     }
+
+pub returns-then-session-len : goal.returns-then-session-len
+returns-then-session-len g c = record {
+  done = stranger g.F.Fronts.log g.F.Fronts.authors (held c.args.machine.now) c.args.session (fence_by (world_of g.F.Fronts.log g.F.Fronts.authors (held c.args.machine.now)) c.args.session) (refused UnknownPlace) refl c.requires.whole.placed (omega (arith, c.if-session-len.true, c.len.ensures));
+}

@@ -23,3 +23,6 @@ pub returns : goal.returns
 returns g c = record {
   done = marks_end g.F.Fronts.log g.F.Fronts.authors (held c.loop-at.machine) (mark_of c.args.marker) (sources c.args.machine.now.places) c.loop-at.at _ c.loop-at.invariant.placed (omega (arith, c.loop-at.invariant.end, c.loop-at-test.false)) c.loop-at.invariant.marks;
 }
+
+pub give_marker-requires : goal.give_marker-requires
+give_marker-requires g c = record { placed = c.loop-at.invariant.placed }

@@ -1,27 +1,32 @@
-use Rattle.std.proofs.Common.{◌≡◌, None, Some, subst, sym}
 use Rattle.row.specs.Cells.{datum_of}
-use Rattle.plan.specs.Layouts.{view_named}
-use Rattle.model.specs.Refusals.{read_refusal}
 use Rattle.schedule.specs.Codes.{reply_of}
-use Rattle.world.specs.Held.{IsDone, world_of}
+use Rattle.std.proofs.Common.{refl}
+use Rattle.world.specs.Held.{view_node}
 use Rattle.world.specs.Machines.{held}
-use Rattle.world.proofs.Ordered.{evict_is}
+use Rattle.world.proofs.Meeting.{seen_there, seen_up}
+use Rattle.world.proofs.Ordered.{evict_done, evict_refused, evict_stopped}
 use Rattle.world.proofs.orders.evict.Goals as goal
 
-pub order_key-requires-clause-placed : goal.order_key-requires-clause-placed
-order_key-requires-clause-placed g c = c.requires.whole.placed
+pub order_key-requires : goal.order_key-requires
+order_key-requires g c = record {
+  placed = c.requires.whole.placed;
+  up = seen_up view_node c.deref.result.now c.args.machine.now.views.items c.reader_of-reader.result _ c.if-not-view_runs.ensures.runs c.deref.ensures.value;
+  there = seen_there c.deref.result.now c.args.machine.now.views.items c.reader_of-reader.result (c.if-not-view_runs.ensures.there refl) c.deref.ensures.value;
+}
 
 pub returns : goal.returns
-returns g c =
-    let log = g.F.Fronts.log in
-    let authors = g.F.Fronts.authors in
-    let w = world_of log authors (held c.args.machine.now) in
-    let key = datum_of c.args.key.now in
-    let name = c.args.view.now in
-    let named = subst (λ p. view_named p name ≡ Some c.in-Ok.view) c.plan.ensures c.in-Ok.ensures.view in
-    let free = subst (λ p. read_refusal p (view_named p name) key ≡ None) c.plan.ensures c.in-Ok.ensures.free in
-    record {
-      done = subst (λ d. IsDone log authors d (reply_of c.in_ok-reply.reply) (held c.order_key.new.machine))
-          (sym (evict_is w (view_named c.args.machine.now.places name) c.in-Ok.view key (read_refusal c.args.machine.now.places (view_named c.args.machine.now.places name) key) c.reader_of-reader.result named free c.reader_of-reader.ensures.place))
-          c.in_ok-reply.ensures.done;
-    }
+returns g c = record {
+  done = evict_done g.F.Fronts.log g.F.Fronts.authors (held c.args.machine.now) c.args.view.now (datum_of c.args.key.now) c.plan.result.now c.plan.ensures c.requires.whole.placed c.in-Ok.view c.reader_of-reader.result c.in-Ok.ensures.view c.in-Ok.ensures.free c.reader_of-reader.ensures.place
+      (reply_of c.in_ok-reply.reply) (held c.order_key.new.machine) c.in_ok-reply.ensures.done;
+}
+
+pub returns-in-Err : goal.returns-in-Err
+returns-in-Err g c = record {
+  done = evict_refused g.F.Fronts.log g.F.Fronts.authors (held c.args.machine.now) c.args.view.now (datum_of c.args.key.now) c.plan.result.now c.plan.ensures c.requires.whole.placed c.in-Err.refused c.in-Err.ensures.why;
+}
+
+pub returns-then-not-view_runs : goal.returns-then-not-view_runs
+returns-then-not-view_runs g c = record {
+  done = evict_stopped g.F.Fronts.log g.F.Fronts.authors (held c.args.machine.now) c.args.view.now (datum_of c.args.key.now) c.plan.result.now c.plan.ensures c.requires.whole.placed c.in-Ok.view c.reader_of-reader.result c.in-Ok.ensures.view c.in-Ok.ensures.free c.reader_of-reader.ensures.place
+      _ c.reader_of-reader.ensures.there (seen_up view_node c.deref.result.now c.args.machine.now.views.items c.reader_of-reader.result _ c.if-not-view_runs.ensures.runs c.deref.ensures.value);
+}

@@ -19,3 +19,6 @@ returns g c =
       done = ordered log authors h (held c.give_view.new.machine) c.args.reader (datum_of c.args.key.now) node reply c.requires.up
           (subst (λ k. IsDone log authors (view_takes (world_of log authors h) c.args.reader node (order k)) reply (held c.give_view.new.machine)) c.in-Ok.ensures c.in_ok-give_view.ensures.done);
     }
+
+pub give_view-requires : goal.give_view-requires
+give_view-requires g c = record { placed = c.requires.placed; up = c.requires.up; there = c.requires.there; meets = λ d at running. tt }

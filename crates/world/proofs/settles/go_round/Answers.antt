@@ -24,3 +24,6 @@ loop-at-preserved g c =
 
 pub returns : goal.returns
 returns g c = record { done = round_ends g.F.Fronts.log g.F.Fronts.authors (held c.loop-at.machine) c.loop-at.ended.items c.loop-at.moved (wires c.args.machine.now.places) c.loop-at.at _ c.loop-at.invariant.whole (omega (arith, c.loop-at.invariant.end, c.loop-at-test.false)) c.loop-at.invariant.rounds }
+
+pub move_one-requires : goal.move_one-requires
+move_one-requires g c = record { agree = c.requires.agree; whole = c.loop-at.invariant.whole }

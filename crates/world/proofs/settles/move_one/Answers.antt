@@ -9,3 +9,6 @@ returns g c =
       done = has_moved g.F.Fronts.log g.F.Fronts.authors (held c.args.machine.now) (held c.deliver.new.machine) (wire_in c.args.wire) (reply_of c.in_ok-reply.reply) c.args.ended.now.items c.note_ended.new.ended.items c.was_idle.result
           c.requires.whole c.in_ok-reply.ensures.done c.in_ok-note_ended.ensures c.was_idle.ensures;
     }
+
+pub deliver-requires : goal.deliver-requires
+deliver-requires g c = record { agree = c.requires.agree; whole = c.requires.whole }

@@ -45,3 +45,6 @@ returns g c = record {
   done = subst (λ d. IsDone g.F.Fronts.log g.F.Fronts.authors d (unsettled c.loop-at.ended.items) (held c.loop-at.machine)) (c.loop-at.invariant.rounds 0 (all_gone c.loop-at.at c.loop-at.auto.at-end c.loop-at-test.false))
       (record { world = refl; reply = refl; placed = c.loop-at.invariant.whole.placed });
 }
+
+pub go_round-requires : goal.go_round-requires
+go_round-requires g c = record { agree = c.requires.agree; whole = c.loop-at.invariant.whole }

@@ -3,7 +3,7 @@ use Rattle.protocol.specs.Events.{stopped}
 use Rattle.protocol.specs.WorldSteps.{stop_at}
 use Rattle.world.specs.Held.{IsDone, world_of}
 use Rattle.world.specs.Machines.{held}
-use Rattle.world.proofs.Stopping.{at_base, at_stage, at_view}
+use Rattle.world.proofs.Stopping.{at_base, at_stage, at_view, stop_none, stop_other}
 use Rattle.world.proofs.stops.stop.Goals.{in-Base, in-Stage, in-View}
 use Rattle.world.proofs.stops.stop.Goals as goal
 
@@ -22,3 +22,18 @@ returns g c =
             | in-View w ↦ subst (λ m. IsDone log authors (stop_at (world_of log authors h) (Some d)) stopped (held m)) (sym w.machine-is) (at_view log authors h d w.in-View.reader (held w.stop_view.new.machine) there.0 (sym w.in-View.is ∙ there.1) w.stop_view.ensures.done)
           ]);
     }
+
+pub stop_base-requires : goal.stop_base-requires
+stop_base-requires g c = record { placed = c.requires.whole.placed }
+
+pub stop_stage-requires : goal.stop_stage-requires
+stop_stage-requires g c = record { placed = c.requires.whole.placed }
+
+pub stop_view-requires : goal.stop_view-requires
+stop_view-requires g c = record { placed = c.requires.whole.placed }
+
+pub returns-in_default : goal.returns-in_default
+returns-in_default g c = record { done = stop_none g.F.Fronts.log g.F.Fronts.authors (held c.args.machine.now) c.args.domain c.requires.whole.placed c.in_default.is }
+
+pub returns-in_default-spot : goal.returns-in_default-spot
+returns-in_default-spot g c = record { done = stop_other g.F.Fronts.log g.F.Fronts.authors (held c.args.machine.now) c.args.domain c.in-Some.domain c.requires.whole.placed c.in-Some.is c.in_default-spot.ensures.not }

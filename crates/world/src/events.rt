@@ -1,0 +1,73 @@
+//! One event of a schedule.
+ghost use Rattle.std.specs.Prelude.{◌≡◌, IfOk};
+ghost use Rattle.protocol.specs.WorldSteps.{on_edge, step};
+ghost use Rattle.protocol.specs.Edges.{wire_of};
+ghost use Rattle.schedule.specs.Codes.{event_of, reply_of};
+ghost use Rattle.world.specs.Held.{AgreeingAreOne, IsDone, IsWhole, world_of};
+ghost use Rattle.world.specs.Machines.{held};
+
+use crate::counts::count;
+use crate::deliveries::deliver;
+use crate::fences::fence;
+use crate::machine::Machine;
+use crate::orders::evict;
+use crate::reads::try_read;
+use crate::settles::settle;
+use crate::stops::stop;
+use crate::wants::want;
+use crate::writes::write;
+use model::fronts::Fronts;
+use plan::domain::Edge;
+use row::refused::Refused;
+use schedule::event::{Event, Reply};
+use std::alloc::Global;
+
+/// One event happens. Errors: then nothing is said of the machine.
+pub(crate) fn step<F: Fronts>(
+    alloc: Global,
+    words: &F::Words,
+    machine: &mut Machine<F>,
+    event: &Event,
+) -> Result<Reply, Refused>
+    requires agree { AgreeingAreOne F.are_one }
+    requires whole { IsWhole F.log F.authors (held machine.old) }
+    ensures done { IfOk result (λ r. IsDone F.log F.authors
+        (step (world_of F.log F.authors (held machine.old)) (event_of event.now)) (reply_of r)
+        (held machine.new)) }
+{
+    match event {
+        Event::Write {
+            session,
+            table,
+            entry,
+        } => write(alloc, words, machine, *session, table, entry),
+        Event::Try { session, view, key } => try_read(alloc, machine, *session, view, key),
+        Event::Want { session, view, key } => want(alloc, machine, *session, view, key),
+        Event::Fence { session } => fence(alloc, words, machine, *session),
+        Event::Count { session, view } => Ok(count(machine, *session, view)),
+        Event::Deliver { edge } => deliver_on(alloc, machine, *edge),
+        Event::Evict { view, key } => evict(alloc, machine, view, key),
+        Event::Stop { domain } => Ok(stop(machine, *domain)),
+        Event::Settle => settle(alloc, machine),
+    }
+}
+
+/// The first message of an edge of the plan is delivered. Errors: then nothing is said of the
+/// machine.
+fn deliver_on<F: Fronts>(
+    alloc: Global,
+    machine: &mut Machine<F>,
+    edge: Option<Edge>,
+) -> Result<Reply, Refused>
+    requires agree { AgreeingAreOne F.are_one }
+    requires whole { IsWhole F.log F.authors (held machine.old) }
+    ensures done { IfOk result (λ r. IsDone F.log F.authors
+        (on_edge (world_of F.log F.authors (held machine.old))
+        (wire_of (held machine.old).plan edge)) (reply_of r) (held machine.new)) }
+{
+    let Some(wire) = machine.places.wire(edge) else {
+        return Ok(Reply::Refused(Refused::UnknownPlace));
+    };
+    let reply = deliver(alloc, machine, wire)?;
+    Ok(reply)
+}

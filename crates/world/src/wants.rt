@@ -1,0 +1,93 @@
+//! Wants: a key of a view that is not filled is asked for.
+ghost use Rattle.std.specs.Prelude.{◌≡◌, ◌≢◌, ◌<◌, ◌&&◌, length, map, slice_get, Some, IfOk};
+ghost use Rattle.row.specs.Cells.{datum_of};
+ghost use Rattle.model.specs.Histories.{view_shard};
+ghost use Rattle.partial.specs.States.{is_filled};
+ghost use Rattle.protocol.specs.WorldSteps.{is_up, lower_run, want_by, wanted_at};
+ghost use Rattle.schedule.specs.Codes.{reply_of};
+ghost use Rattle.view_domain.specs.Domains.{view_of};
+ghost use Rattle.world.specs.Held.{IsDone, IsPlaced, IsWhole, view_node, world_of};
+ghost use Rattle.world.specs.Machines.{held};
+
+use crate::fences::{are_both, lower_runs};
+use crate::machine::Machine;
+use crate::views::{give_view, view_runs};
+use model::fronts::Fronts;
+use row::refused::Refused;
+use row::value::Value;
+use schedule::arguments::read_target;
+use schedule::event::Reply;
+use std::alloc::Global;
+use view_domain::message::ToView;
+use view_domain::view_domain::ViewDomain;
+
+/// A session wants a key of a view: where it is not filled, its view shard takes the want, if that
+/// and all below it runs. Errors: then nothing is said of the machine.
+pub(crate) fn want<F: Fronts>(
+    alloc: Global,
+    machine: &mut Machine<F>,
+    session: usize,
+    view: &str,
+    key: &Value,
+) -> Result<Reply, Refused>
+    requires whole { IsWhole F.log F.authors (held machine.old) }
+    ensures done { IfOk result (λ r. IsDone F.log F.authors
+        (want_by (world_of F.log F.authors (held machine.old))
+        (slice_get (world_of F.log F.authors (held machine.old)).callers session) view.now
+        (datum_of key.now)) (reply_of r) (held machine.new)) }
+{
+    if session >= machine.callers.len() {
+        return Ok(Reply::Refused(Refused::UnknownPlace));
+    }
+    let place = match read_target(machine.places.plan(), view, key) {
+        Ok(place) => place,
+        Err(refused) => return Ok(Reply::Refused(refused)),
+    };
+    let reader = machine.places.reader_of(place, key);
+    let reply = want_at(alloc, machine, reader, key)?;
+    Ok(reply)
+}
+
+/// A key is wanted of a view shard. Errors: then nothing is said of the machine.
+fn want_at<F: Fronts>(
+    alloc: Global,
+    machine: &mut Machine<F>,
+    reader: usize,
+    key: &Value,
+) -> Result<Reply, Refused>
+    requires placed { IsPlaced F.log F.authors (held machine.old) }
+    requires there { reader < length (held machine.old).views }
+    ensures done { IfOk result (λ r. IsDone F.log F.authors
+        (wanted_at (world_of F.log F.authors (held machine.old)) (datum_of key.now) reader
+        (slice_get (map view_node (held machine.old).views) reader)) (reply_of r)
+        (held machine.new)) }
+{
+    if is_filled(&machine.views[reader], key) {
+        return Ok(Reply::Wanted);
+    }
+    if !can_ask(machine, reader) {
+        return Ok(Reply::Refused(Refused::Stopped));
+    }
+    let Ok(key) = key.try_clone(alloc) else {
+        return Err(Refused::NoMemory);
+    };
+    give_view(alloc, machine, reader, ToView::Want { key })?;
+    Ok(Reply::Wanted)
+}
+
+/// Whether a view shard has the key filled.
+fn is_filled<F: Fronts>(domain: &ViewDomain<F>, key: &Value) -> bool
+    ensures { result ≡ is_filled ((view_of domain.now).keys.at (datum_of key.now)) }
+{
+    domain.get(key).is_some()
+}
+
+/// Whether a view shard runs, and all that it asks.
+fn can_ask<F: Fronts>(machine: &Machine<F>, reader: usize) -> bool
+    ensures { result ≡ (is_up (slice_get (map view_node (held machine.now).views) reader)
+        && lower_run (world_of F.log F.authors (held machine.now))) }
+{
+    let runs = view_runs(&machine.views, reader);
+    let lower = lower_runs(machine);
+    are_both(runs, lower)
+}
