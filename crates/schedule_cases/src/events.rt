@@ -1,0 +1,149 @@
+//! An event, as a line of a schedule says it.
+use model::entry::Entry;
+use plan::kinds::Kind;
+use plan::plan::Plan;
+use row::row::Row;
+use row::value::Value;
+use schedule::event::Event;
+use script::cell::value_of;
+use script::words::{LineError, words};
+use std::alloc::{AllocError, Global};
+
+/// The event of a line, if it is one.
+pub fn event_of(alloc: Global, plan: &Plan, line: &str) -> Result<Option<Event>, AllocError> {
+    let words = words_of(alloc, line)?;
+    match text(&words, 0) {
+        "settle" if words.len() == 1 => Ok(Some(Event::Settle)),
+        "deliver" if words.len() == 2 => Ok(Some(Event::Deliver {
+            edge: plan.edge_named(alloc, text(&words, 1))?,
+        })),
+        "stop" if words.len() == 2 => Ok(Some(Event::Stop {
+            domain: plan.domain_named(alloc, text(&words, 1))?,
+        })),
+        "evict" if words.len() == 4 && text(&words, 1) == "view" => Ok(Some(Event::Evict {
+            view: String::from_str(alloc, text(&words, 2))?,
+            key: key_of(alloc, plan, text(&words, 2), text(&words, 3))?,
+        })),
+        session => match number(session) {
+            Some(session) => call_of(alloc, plan, session, &words),
+            None => Ok(None),
+        },
+    }
+}
+
+// The call of a session, whose number is the first word.
+fn call_of(
+    alloc: Global,
+    plan: &Plan,
+    session: usize,
+    words: &[String],
+) -> Result<Option<Event>, AllocError> {
+    let name = text(words, 2);
+    match (text(words, 1), words.len()) {
+        ("fence", 2) => Ok(Some(Event::Fence { session })),
+        ("count", 3) => Ok(Some(Event::Count {
+            session,
+            view: String::from_str(alloc, name)?,
+        })),
+        ("try", 4) => Ok(Some(Event::Try {
+            session,
+            view: String::from_str(alloc, name)?,
+            key: key_of(alloc, plan, name, text(words, 3))?,
+        })),
+        ("want", 4) => Ok(Some(Event::Want {
+            session,
+            view: String::from_str(alloc, name)?,
+            key: key_of(alloc, plan, name, text(words, 3))?,
+        })),
+        _ => write_of(alloc, plan, session, words),
+    }
+}
+
+fn write_of(
+    alloc: Global,
+    plan: &Plan,
+    session: usize,
+    words: &[String],
+) -> Result<Option<Event>, AllocError> {
+    let Some(entry) = entry_of(alloc, plan, words)? else {
+        return Ok(None);
+    };
+    Ok(Some(Event::Write {
+        session,
+        table: String::from_str(alloc, text(words, 2))?,
+        entry,
+    }))
+}
+
+fn text<'w>(words: &'w [String], at: usize) -> &'w str {
+    match words.get(at) {
+        Some(word) => word.as_str(),
+        None => "",
+    }
+}
+
+fn number(word: &str) -> Option<usize> {
+    word.parse::<usize>().ok()
+}
+
+fn words_of(alloc: Global, line: &str) -> Result<Vec<String>, AllocError> {
+    match words(alloc, line.as_bytes()) {
+        Ok(words) => Ok(words),
+        Err(LineError::NoMemory) => Err(AllocError),
+        Err(LineError::BadLine) => Ok(Vec::new(alloc)),
+    }
+}
+
+// The entry of `S insert TABLE CELL..`, `S update TABLE CELL..` or `S delete TABLE KEY`.
+fn entry_of(alloc: Global, plan: &Plan, words: &[String]) -> Result<Option<Entry>, AllocError> {
+    let table = plan.table_named(text(words, 2)).unwrap_or(0);
+    match (text(words, 1), words.len()) {
+        ("insert", 4..) => Ok(Some(Entry::Insert(row_of(alloc, plan, table, words)?))),
+        ("update", 4..) => Ok(Some(Entry::Update(row_of(alloc, plan, table, words)?))),
+        ("delete", 4) => {
+            let kind = kind_at(plan, table, key_column(plan, table));
+            Ok(Some(Entry::Delete(cell_of(alloc, kind, text(words, 3))?)))
+        }
+        _ => Ok(None),
+    }
+}
+
+fn row_of(alloc: Global, plan: &Plan, table: usize, words: &[String]) -> Result<Row, AllocError> {
+    let mut cells = Vec::new(alloc);
+    for word in words.iter().skip(3) {
+        let kind = kind_at(plan, table, cells.len());
+        cells.push(cell_of(alloc, kind, word.as_str())?)?;
+    }
+    Ok(Row::new(cells))
+}
+
+fn key_column(plan: &Plan, table: usize) -> usize {
+    if table < plan.tables() {
+        plan.table(table).key()
+    } else {
+        0
+    }
+}
+
+// A key of a view is a cell of the left table's column that keys it.
+fn key_of(alloc: Global, plan: &Plan, view: &str, word: &str) -> Result<Value, AllocError> {
+    let view = plan.view_named(view).unwrap_or(0);
+    if view < plan.views() {
+        let kind = kind_at(plan, plan.left().table(), plan.view(view).key());
+        cell_of(alloc, kind, word)
+    } else {
+        cell_of(alloc, Kind::Int, word)
+    }
+}
+
+fn cell_of(alloc: Global, kind: Kind, word: &str) -> Result<Value, AllocError> {
+    value_of(alloc, kind, String::from_str(alloc, word)?)
+}
+
+fn kind_at(plan: &Plan, table: usize, column: usize) -> Kind {
+    if table < plan.tables() {
+        plan.table(table).kind(column).unwrap_or(Kind::Text)
+    } else {
+        Kind::Text
+    }
+}
