@@ -20,7 +20,6 @@ use Rattle.schedule.specs.Taken.{IsTaken}
 use Rattle.view_domain.specs.Codes.{GoesWith, IsFrom}
 use Rattle.view_domain.specs.Domains.{Domain as ViewDomain, view_of, lines_of}
 use Rattle.world.specs.Held.{Held, IsWhole, IsPlaced, IsDone, IsSentBy, AreQueued, AgreeingAreOne, world_of, view_node, sent_in, runs}
-use Rattle.world.specs.Turned.{IsLost}
 use Rattle.world.proofs.Queued.{first_queued, queued_taken, map_queue, map_taken}
 use Rattle.world.proofs.Meeting.{prefix_agree}
 use Rattle.world.proofs.Steps.{remade}
@@ -85,11 +84,11 @@ module _ {F : Type 0} (log : F → LogView) (authors : F → List Author) where
   view_down w r None m e = refl
   view_down w r (Some n) m e = ap (λ b. cond b (view_takes w r (Some (record { is = n.is; runs = true })) m) (says w delivered)) e
 
-  pub sent_off : (h : Held F) (r s : ℕ) (tv : List (List (List StagePacketView))) → IsPlaced log authors h → IsLost h.to_view r s tv → is_up (slice_get (map view_node h.views) r) ≡ false
+  pub sent_off : (h : Held F) (r s : ℕ) (x : StagePacketView) (tv : List (List (List StagePacketView))) → IsPlaced log authors h → IsTaken h.to_view r s x tv → is_up (slice_get (map view_node h.views) r) ≡ false
       → IsDone log authors (stage_came (world_of log authors h) s r (queue (sent_in h.to_view) r s)) delivered (off_stage h tv)
-  sent_off h r s tv p l down =
-      let lost = came_is h r s l.message tv l.taken ∙ view_down (world_of log authors (off_stage h tv)) r (slice_get (map view_node h.views) r) (packet s (sent_of l.message)) down in
-      subst (λ d. IsDone log authors d delivered (off_stage h tv)) (sym lost) (record { world = refl; reply = refl; placed = sent_placed h r s l.message tv l.taken p })
+  sent_off h r s x tv p t down =
+      let lost = came_is h r s x tv t ∙ view_down (world_of log authors (off_stage h tv)) r (slice_get (map view_node h.views) r) (packet s (sent_of x)) down in
+      subst (λ d. IsDone log authors d delivered (off_stage h tv)) (sym lost) (record { world = refl; reply = refl; placed = sent_placed h r s x tv t p })
 
   pub sent_still : (h : Held F) (r s : ℕ) (tv : List (List (List StagePacketView))) → IsPlaced log authors h → queue h.to_view r s ≡ [] → tv ≡ h.to_view
       → IsDone log authors (stage_came (world_of log authors h) s r (queue (sent_in h.to_view) r s)) idle (off_stage h tv)

@@ -17,9 +17,8 @@ use Rattle.packet.specs.Readers.{readers}
 use Rattle.schedule.specs.Sessions.{Session}
 use Rattle.view_domain.specs.Domains.{Domain as ViewDomain}
 use Rattle.world.specs.Held.{Held, Are, AreQueued, IsPlaced, IsDone, IsStageOf, IsViewOf, IsSentBy, IsAsk, KnowsOwn, base_node, world_of, stage_node, sent_in, runs}
-use Rattle.world.specs.Turned.{IsStageTurn, IsLost}
+use Rattle.world.specs.Turned.{IsStageTurn, IsGiven}
 use Rattle.schedule.specs.Taken.{IsTaken}
-use Rattle.packet.specs.declared.mode.Mode.TheVariants as mode
 use Rattle.world.proofs.Queued.{nothing_queued, pushed_none, queued_taken}
 
 -- ---- one of them changes
@@ -106,19 +105,23 @@ module _ {F : Type 0} (log : F → LogView) (authors : F → List Author) where
   source_idle h s j q p = subst (λ q. IsDone log authors (base_came (world_of log authors h) j s q) idle h) (sym q) (record { world = refl; reply = refl; placed = p })
 
   -- ---- as the code has it
-  pub source_passed : (h : Held F) (s j : ℕ) (k : BasePacketView) (ts : List (List (List BasePacketView))) (old new : StageDomain) (tv : List (List (List StagePacketView))) → IsPlaced log authors h → IsTaken h.to_stage s j k ts
-      → slice_get h.stages s ≡ Some old → old.mode ≡ mode.Running → IsStageTurn old.plan s (step (stage_of old) (packet j k)) h.to_view new tv
-      → IsDone log authors (base_came (world_of log authors h) j s (queue h.to_stage s j)) delivered (record h { stages = slice_set h.stages s new; to_stage = ts; to_view = tv })
-  source_passed h s j k ts old new tv p t at running turn =
-      subst (λ q. IsDone log authors (base_came (world_of log authors h) j s (queue h.to_stage s j)) delivered (record h { stages = slice_set h.stages s new; to_stage = q; to_view = tv })) (sym t.is)
-      (source_taken h s j k t.rest old new tv t.was p (map_get stage_node h.stages s old at) (ap runs running)
-      (subst (λ x. IsStageTurn x s (step (stage_of old) (packet j k)) h.to_view new tv) (p.stages.each s old at).plan turn))
+  pub source_passed : (h : Held F) (s j : ℕ) (k : BasePacketView) (ts : List (List (List BasePacketView))) (new : Held F) → IsPlaced log authors h → IsTaken h.to_stage s j k ts → IsGiven s (packet j k) (record h { to_stage = ts }) new
+      → IsDone log authors (base_came (world_of log authors h) j s (queue h.to_stage s j)) delivered new
+  source_passed h s j k ts new p t g =
+      let d = base_came (world_of log authors h) j s (queue h.to_stage s j) in
+      subst (IsDone log authors d delivered) (sym g.is)
+      (subst (λ q. IsDone log authors d delivered (record h { stages = slice_set h.stages s g.later; to_stage = q; to_view = g.queues })) (sym t.is)
+      (source_taken h s j k t.rest g.domain g.later g.queues t.was p (map_get stage_node h.stages s g.domain g.there) (ap runs g.running)
+      (subst (λ x. IsStageTurn x s (step (stage_of g.domain) (packet j k)) h.to_view g.later g.queues) (p.stages.each s g.domain g.there).plan g.turn)))
 
-  pub source_off : (h : Held F) (s j : ℕ) (ts : List (List (List BasePacketView))) → IsPlaced log authors h → IsLost h.to_stage s j ts → is_up (slice_get (map stage_node h.stages) s) ≡ false
+  pub source_off : (h : Held F) (s j : ℕ) (k : BasePacketView) (ts : List (List (List BasePacketView))) → IsPlaced log authors h → IsTaken h.to_stage s j k ts → is_up (slice_get (map stage_node h.stages) s) ≡ false
       → IsDone log authors (base_came (world_of log authors h) j s (queue h.to_stage s j)) delivered (record h { to_stage = ts })
-  source_off h s j ts p l down =
-      subst (λ q. IsDone log authors (base_came (world_of log authors h) j s (queue h.to_stage s j)) delivered (record h { to_stage = q })) (sym l.taken.is)
-      (source_lost h s j l.message l.taken.rest l.taken.was p down)
+  source_off h s j k ts p t down =
+      subst (λ q. IsDone log authors (base_came (world_of log authors h) j s (queue h.to_stage s j)) delivered (record h { to_stage = q })) (sym t.is)
+      (source_lost h s j k t.rest t.was p down)
+
+  pub source_placed : (h : Held F) (s j : ℕ) (k : BasePacketView) (ts : List (List (List BasePacketView))) → IsPlaced log authors h → IsTaken h.to_stage s j k ts → IsPlaced log authors (record h { to_stage = ts })
+  source_placed h s j k ts p t = subst (λ q. IsPlaced log authors (record h { to_stage = q })) (sym t.is) (off_placed h s j k t.rest t.was p)
 
   pub source_still : (h : Held F) (s j : ℕ) (ts : List (List (List BasePacketView))) → IsPlaced log authors h → queue h.to_stage s j ≡ [] → ts ≡ h.to_stage
       → IsDone log authors (base_came (world_of log authors h) j s (queue h.to_stage s j)) idle (record h { to_stage = ts })
@@ -133,27 +136,34 @@ module _ {F : Type 0} (log : F → LogView) (authors : F → List Author) where
   asked_placed h s r a asks q p =
       remade h p h.stages p.stages h.views p.views h.to_stage p.to_stage h.to_view p.to_view (with_queue h.from_view s r asks) (queued_taken (IsAsk h.plan) h.from_view s r a asks q p.from_view) h.sessions p.sessions
 
-  pub request_passed : (h : Held F) (s r : ℕ) (a : Ask) (fv : List (List (List Ask))) (old new : StageDomain) (tv : List (List (List StagePacketView))) → IsPlaced log authors h → IsTaken h.from_view s r a fv
-      → slice_get h.stages s ≡ Some old → old.mode ≡ mode.Running → IsStageTurn old.plan s (step (stage_of old) (request a)) h.to_view new tv
-      → IsDone log authors (ask_came (world_of log authors h) r s (queue h.from_view s r)) delivered (record h { stages = slice_set h.stages s new; from_view = fv; to_view = tv })
-  request_passed h s r a fv old new tv p t at running turn =
-      let g = off_view h s r t.rest in
-      let own = subst (λ x. IsStageTurn x s (step (stage_of old) (request a)) h.to_view new tv) (p.stages.each s old at).plan turn in
-      let done : world_of log authors (with_stage g s new tv) ≡ (ask_came (world_of log authors h) r s (a ∷ t.rest)).world
-      = stage_world g s new tv (step (stage_of old) (request a)) own
-      ∙ sym (stage_up (world_of log authors g) s (stage_node old) (request a) (map_get stage_node h.stages s old at) (ap runs running)) in
-      subst (λ x. IsDone log authors (ask_came (world_of log authors h) r s (queue h.from_view s r)) delivered (record h { stages = slice_set h.stages s new; from_view = x; to_view = tv })) (sym t.is)
-      (subst (λ x. IsDone log authors (ask_came (world_of log authors h) r s x) delivered (with_stage g s new tv)) (sym t.was)
-      (record { world = done; reply = refl; placed = stage_placed g s new tv (step (stage_of old) (request a)) (asked_placed h s r a t.rest t.was p) own }))
+  pub request_placed : (h : Held F) (s r : ℕ) (a : Ask) (fv : List (List (List Ask))) → IsPlaced log authors h → IsTaken h.from_view s r a fv → IsPlaced log authors (record h { from_view = fv })
+  request_placed h s r a fv p t = subst (λ q. IsPlaced log authors (record h { from_view = q })) (sym t.is) (asked_placed h s r a t.rest t.was p)
 
-  pub request_off : (h : Held F) (s r : ℕ) (fv : List (List (List Ask))) → IsPlaced log authors h → IsLost h.from_view s r fv → is_up (slice_get (map stage_node h.stages) s) ≡ false
+  pub request_passed : (h : Held F) (s r : ℕ) (a : Ask) (fv : List (List (List Ask))) (new : Held F) → IsPlaced log authors h → IsTaken h.from_view s r a fv → IsGiven s (request a) (record h { from_view = fv }) new
+      → IsDone log authors (ask_came (world_of log authors h) r s (queue h.from_view s r)) delivered new
+  request_passed h s r a fv new p t given =
+      let g = off_view h s r t.rest in
+      let old = given.domain in
+      let later = given.later in
+      let tv = given.queues in
+      let d = ask_came (world_of log authors h) r s (queue h.from_view s r) in
+      let own = subst (λ x. IsStageTurn x s (step (stage_of old) (request a)) h.to_view later tv) (p.stages.each s old given.there).plan given.turn in
+      let done : world_of log authors (with_stage g s later tv) ≡ (ask_came (world_of log authors h) r s (a ∷ t.rest)).world
+      = stage_world g s later tv (step (stage_of old) (request a)) own
+      ∙ sym (stage_up (world_of log authors g) s (stage_node old) (request a) (map_get stage_node h.stages s old given.there) (ap runs given.running)) in
+      subst (IsDone log authors d delivered) (sym given.is)
+      (subst (λ x. IsDone log authors d delivered (record h { stages = slice_set h.stages s later; from_view = x; to_view = tv })) (sym t.is)
+      (subst (λ x. IsDone log authors (ask_came (world_of log authors h) r s x) delivered (with_stage g s later tv)) (sym t.was)
+      (record { world = done; reply = refl; placed = stage_placed g s later tv (step (stage_of old) (request a)) (asked_placed h s r a t.rest t.was p) own })))
+
+  pub request_off : (h : Held F) (s r : ℕ) (a : Ask) (fv : List (List (List Ask))) → IsPlaced log authors h → IsTaken h.from_view s r a fv → is_up (slice_get (map stage_node h.stages) s) ≡ false
       → IsDone log authors (ask_came (world_of log authors h) r s (queue h.from_view s r)) delivered (record h { from_view = fv })
-  request_off h s r fv p l down =
-      let g = off_view h s r l.taken.rest in
+  request_off h s r a fv p t down =
+      let g = off_view h s r t.rest in
       let w = world_of log authors g in
-      subst (λ x. IsDone log authors (ask_came (world_of log authors h) r s (queue h.from_view s r)) delivered (record h { from_view = x })) (sym l.taken.is)
-      (subst (λ x. IsDone log authors (ask_came (world_of log authors h) r s x) delivered g) (sym l.taken.was)
-      (record { world = sym (stage_down w s (slice_get w.stages s) (request l.message) down); reply = refl; placed = asked_placed h s r l.message l.taken.rest l.taken.was p }))
+      subst (λ x. IsDone log authors (ask_came (world_of log authors h) r s (queue h.from_view s r)) delivered (record h { from_view = x })) (sym t.is)
+      (subst (λ x. IsDone log authors (ask_came (world_of log authors h) r s x) delivered g) (sym t.was)
+      (record { world = sym (stage_down w s (slice_get w.stages s) (request a) down); reply = refl; placed = asked_placed h s r a t.rest t.was p }))
 
   pub request_still : (h : Held F) (s r : ℕ) (fv : List (List (List Ask))) → IsPlaced log authors h → queue h.from_view s r ≡ [] → fv ≡ h.from_view
       → IsDone log authors (ask_came (world_of log authors h) r s (queue h.from_view s r)) idle (record h { from_view = fv })

@@ -1,25 +1,21 @@
 -- What one message makes of one domain and of the queues that it sends to.
-use Rattle.std.specs.Prelude.{◌≡◌, ℕ, true, List}
+use Rattle.std.specs.Prelude.{◌≡◌, ℕ, true, List, Some, slice_get, slice_set}
 use Rattle.plan.specs.Layouts.{Layout}
 use Rattle.model.specs.Places.{sources}
 use Rattle.model.specs.Fronts.{LogView}
 use Rattle.model.specs.Histories.{Author}
 use Rattle.packet.specs.Messages.{Ask, BasePacketView, StagePacketView, none_of}
+use Rattle.packet.specs.declared.mode.Mode.TheVariants as mode
 use Rattle.protocol.specs.Bases as base
 use Rattle.protocol.specs.Stages as stage
+use Rattle.protocol.specs.StageSteps as on_stage
 use Rattle.protocol.specs.Views as view
 use Rattle.protocol.specs.Edges.{pushed, source_place}
 use Rattle.protocol.specs.WorldSteps.{base_sent}
 use Rattle.base_domain.specs.Domains.{Domain as BaseDomain}
-use Rattle.stage_domain.specs.Domains.{Domain as StageDomain, IsFrom}
+use Rattle.stage_domain.specs.Domains.{Domain as StageDomain, IsFrom, stage_of}
 use Rattle.view_domain.specs.Domains.{Domain as ViewDomain}
-use Rattle.schedule.specs.Taken.{IsTaken}
-use Rattle.world.specs.Held.{IsBaseOf, IsStageOf, IsViewOf, AreQueued, IsSentBy, IsAsk, sent_in, base_node, stage_node, view_node}
-
--- the first message on the queue of receiver r from sender i is off it
-pub record IsLost {X : Type 0} (old : List (List (List X))) (r i : ℕ) (new : List (List (List X))) : Type 0 where
-  pub message : X
-  pub taken : IsTaken old r i message new
+use Rattle.world.specs.Held.{Held, IsBaseOf, IsStageOf, IsViewOf, AreQueued, IsSentBy, IsAsk, sent_in, base_node, stage_node, view_node}
 
 -- stage shard s of the plan has done this, which asks no source for anything, and goes on
 pub record IsStageTurn (p : Layout) (s : ℕ) (d : stage.Done) (old : List (List (List StagePacketView))) (new : StageDomain) (queues : List (List (List StagePacketView))) : Type 0 where
@@ -28,6 +24,16 @@ pub record IsStageTurn (p : Layout) (s : ℕ) (d : stage.Done) (old : List (List
   pub sent : sent_in queues ≡ pushed s d.sent (sent_in old)
   pub queued : AreQueued (IsSentBy p) old → AreQueued (IsSentBy p) queues
   pub requests : d.requests ≡ none_of (sources p)
+
+-- stage shard s has had this message, and nothing else has changed
+pub record IsGiven {F : Type 0} (s : ℕ) (m : stage.ToStage) (old new : Held F) : Type 0 where
+  pub domain : StageDomain
+  pub later : StageDomain
+  pub queues : List (List (List StagePacketView))
+  pub there : slice_get old.stages s ≡ Some domain
+  pub running : domain.mode ≡ mode.Running
+  pub turn : IsStageTurn domain.plan s (on_stage.step (stage_of domain) m) old.to_view later queues
+  pub is : new ≡ record old { stages = slice_set old.stages s later; to_view = queues }
 
 -- view shard r has done this, and goes on
 pub record IsViewTurn (p : Layout) (r : ℕ) (d : view.Done) (old : List (List (List Ask))) (new : ViewDomain) (queues : List (List (List Ask))) : Type 0 where

@@ -1,11 +1,14 @@
 //! Deliveries: the first message of an edge goes to the domain at its end.
-ghost use Rattle.std.specs.Prelude.{◌≡◌, ◌<◌, ℕ, true, false, [], length, map, slice_get, IfOk, IsTrue, IsFalse};
+ghost use Rattle.std.specs.Prelude.{◌≡◌, ◌<◌, ℕ, true, length, map, slice_get, Some, IfOk, OnOk, IsTrue};
+ghost use Rattle.packet.specs.declared.mode.Mode.TheVariants.{Running};
 ghost use Rattle.protocol.specs.Edges.{queue, to_base_back};
 ghost use Rattle.protocol.specs.WorldSteps.{ask_came, base_came, delivery, is_up, stage_came};
 ghost use Rattle.schedule.specs.Codes.{reply_of, wire_in};
-ghost use Rattle.world.specs.Held.{AgreeingAreOne, IsDone, IsWhole, sent_in, stage_node, view_node, world_of};
+ghost use Rattle.stage_domain.specs.Codes.{message_of};
+ghost use Rattle.stage_domain.specs.Domains.{Domain as StageState, Meets};
+ghost use Rattle.world.specs.Held.{AgreeingAreOne, IsDone, IsPlaced, IsWhole, sent_in, stage_node, world_of};
 ghost use Rattle.world.specs.Machines.{held};
-ghost use Rattle.world.specs.Turned.{IsLost};
+ghost use Rattle.world.specs.Turned.{IsGiven};
 
 use crate::machine::Machine;
 use crate::turns::turn_stage;
@@ -14,7 +17,6 @@ use model::fronts::Fronts;
 use packet::mode::Mode;
 use row::refused::Refused;
 use schedule::event::Reply;
-use schedule::queues::Queues;
 use schedule::wire::Wire;
 use stage_domain::message::ToStage;
 use stage_domain::stage_domain::StageDomain;
@@ -22,7 +24,7 @@ use std::alloc::Global;
 use view_domain::message::ToView;
 
 /// Whether there is the stage shard, and it runs.
-pub(crate) fn stage_runs<F: Fronts>(stages: &[StageDomain<F>], stage: usize) -> bool
+fn stage_runs<F: Fronts>(stages: &[StageDomain<F>], stage: usize) -> bool
     ensures runs { result ≡ is_up (slice_get (map stage_node stages.now) stage) }
     ensures there { IsTrue result → stage < length stages.now }
 {
@@ -64,7 +66,7 @@ fn no_request<F: Fronts>(machine: &Machine<F>) -> Reply
 
 /// The first packet on the edge from a source to a stage shard. A shard that has stopped loses it.
 /// Errors: then nothing is said of the machine.
-pub(crate) fn from_source<F: Fronts>(
+fn from_source<F: Fronts>(
     alloc: Global,
     machine: &mut Machine<F>,
     source: usize,
@@ -76,33 +78,57 @@ pub(crate) fn from_source<F: Fronts>(
         (base_came (world_of F.log F.authors (held machine.old)) source stage
         (queue (held machine.old).to_stage stage source)) (reply_of r) (held machine.new)) }
 {
-    if stage_runs(&machine.stages, stage) {
-        pass_packet(alloc, machine, source, stage)
-    } else {
-        Ok(lose_packet(machine, source, stage))
-    }
-}
-
-/// The first packet goes to a stage shard that runs.
-fn pass_packet<F: Fronts>(
-    alloc: Global,
-    machine: &mut Machine<F>,
-    source: usize,
-    stage: usize,
-) -> Result<Reply, Refused>
-    requires agree { AgreeingAreOne F.are_one }
-    requires whole { IsWhole F.log F.authors (held machine.old) }
-    requires up { is_up (slice_get (map stage_node (held machine.old).stages) stage) ≡ true }
-    requires there { stage < length (held machine.old).stages }
-    ensures done { IfOk result (λ r. IsDone F.log F.authors
-        (base_came (world_of F.log F.authors (held machine.old)) source stage
-        (queue (held machine.old).to_stage stage source)) (reply_of r) (held machine.new)) }
-{
+    let runs = stage_runs(&machine.stages, stage);
     let Some(packet) = machine.to_stage.take(stage, source) else {
         return Ok(Reply::Idle);
     };
+    if !runs {
+        return Ok(Reply::Delivered);
+    }
+    give_stage(alloc, machine, stage, ToStage::Packet { source, packet })?;
+    Ok(Reply::Delivered)
+}
+
+/// The first request on the edge from a view shard to a stage shard. A shard that has stopped loses
+/// it. Errors: then nothing is said of the machine.
+fn ask_stage<F: Fronts>(
+    alloc: Global,
+    machine: &mut Machine<F>,
+    reader: usize,
+    stage: usize,
+) -> Result<Reply, Refused>
+    requires whole { IsWhole F.log F.authors (held machine.old) }
+    ensures done { IfOk result (λ r. IsDone F.log F.authors
+        (ask_came (world_of F.log F.authors (held machine.old)) reader stage
+        (queue (held machine.old).from_view stage reader)) (reply_of r) (held machine.new)) }
+{
+    let runs = stage_runs(&machine.stages, stage);
+    let Some(request) = machine.from_view.take(stage, reader) else {
+        return Ok(Reply::Idle);
+    };
+    if !runs {
+        return Ok(Reply::Delivered);
+    }
+    give_stage(alloc, machine, stage, ToStage::Request(request))?;
+    Ok(Reply::Delivered)
+}
+
+/// A stage shard that runs takes a message. Errors: then nothing is said of the machine.
+fn give_stage<F: Fronts>(
+    alloc: Global,
+    machine: &mut Machine<F>,
+    stage: usize,
+    message: ToStage<F>,
+) -> Result<(), Refused>
+    requires placed { IsPlaced F.log F.authors (held machine.old) }
+    requires up { is_up (slice_get (map stage_node (held machine.old).stages) stage) ≡ true }
+    requires there { stage < length (held machine.old).stages }
+    requires meets { (d : StageState) → slice_get (held machine.old).stages stage ≡ Some d
+        → d.mode ≡ Running → Meets F.are_one d (message_of message) }
+    ensures given { OnOk result (IsGiven stage (message_of message) (held machine.old)
+        (held machine.new)) }
+{
     let readers = machine.places.readers().len();
-    let message = ToStage::Packet { source, packet };
     turn_stage(
         alloc,
         stage,
@@ -111,91 +137,12 @@ fn pass_packet<F: Fronts>(
         readers,
         &mut machine.to_view,
     )?;
-    Ok(Reply::Delivered)
-}
-
-/// The first packet is lost.
-fn lose_packet<F: Fronts>(machine: &mut Machine<F>, source: usize, stage: usize) -> Reply
-    requires whole { IsWhole F.log F.authors (held machine.old) }
-    requires down { is_up (slice_get (map stage_node (held machine.old).stages) stage) ≡ false }
-    ensures done { IsDone F.log F.authors
-        (base_came (world_of F.log F.authors (held machine.old)) source stage
-        (queue (held machine.old).to_stage stage source)) (reply_of result) (held machine.new) }
-{
-    if lose(&mut machine.to_stage, stage, source) {
-        Reply::Delivered
-    } else {
-        Reply::Idle
-    }
-}
-
-/// The first request on the edge from a view shard to a stage shard. A shard that has stopped loses
-/// it. Errors: then nothing is said of the machine.
-pub(crate) fn ask_stage<F: Fronts>(
-    alloc: Global,
-    machine: &mut Machine<F>,
-    reader: usize,
-    stage: usize,
-) -> Result<Reply, Refused>
-    requires whole { IsWhole F.log F.authors (held machine.old) }
-    ensures done { IfOk result (λ r. IsDone F.log F.authors
-        (ask_came (world_of F.log F.authors (held machine.old)) reader stage
-        (queue (held machine.old).from_view stage reader)) (reply_of r) (held machine.new)) }
-{
-    if stage_runs(&machine.stages, stage) {
-        pass_request(alloc, machine, reader, stage)
-    } else {
-        Ok(lose_request(machine, reader, stage))
-    }
-}
-
-/// The first request goes to a stage shard that runs.
-fn pass_request<F: Fronts>(
-    alloc: Global,
-    machine: &mut Machine<F>,
-    reader: usize,
-    stage: usize,
-) -> Result<Reply, Refused>
-    requires whole { IsWhole F.log F.authors (held machine.old) }
-    requires up { is_up (slice_get (map stage_node (held machine.old).stages) stage) ≡ true }
-    requires there { stage < length (held machine.old).stages }
-    ensures done { IfOk result (λ r. IsDone F.log F.authors
-        (ask_came (world_of F.log F.authors (held machine.old)) reader stage
-        (queue (held machine.old).from_view stage reader)) (reply_of r) (held machine.new)) }
-{
-    let Some(request) = machine.from_view.take(stage, reader) else {
-        return Ok(Reply::Idle);
-    };
-    let readers = machine.places.readers().len();
-    turn_stage(
-        alloc,
-        stage,
-        &mut machine.stages[stage],
-        ToStage::Request(request),
-        readers,
-        &mut machine.to_view,
-    )?;
-    Ok(Reply::Delivered)
-}
-
-/// The first request is lost.
-fn lose_request<F: Fronts>(machine: &mut Machine<F>, reader: usize, stage: usize) -> Reply
-    requires whole { IsWhole F.log F.authors (held machine.old) }
-    requires down { is_up (slice_get (map stage_node (held machine.old).stages) stage) ≡ false }
-    ensures done { IsDone F.log F.authors
-        (ask_came (world_of F.log F.authors (held machine.old)) reader stage
-        (queue (held machine.old).from_view stage reader)) (reply_of result) (held machine.new) }
-{
-    if lose(&mut machine.from_view, stage, reader) {
-        Reply::Delivered
-    } else {
-        Reply::Idle
-    }
+    Ok(())
 }
 
 /// The first packet on the edge from a stage shard to a view shard. A shard that has stopped
 /// loses it. Errors: then nothing is said of the machine.
-pub(crate) fn from_stage<F: Fronts>(
+fn from_stage<F: Fronts>(
     alloc: Global,
     machine: &mut Machine<F>,
     stage: usize,
@@ -208,60 +155,13 @@ pub(crate) fn from_stage<F: Fronts>(
         (queue (sent_in (held machine.old).to_view) reader stage)) (reply_of r)
         (held machine.new)) }
 {
-    if view_runs(&machine.views, reader) {
-        pass_sent(alloc, machine, stage, reader)
-    } else {
-        Ok(lose_sent(machine, stage, reader))
-    }
-}
-
-/// The first packet goes to a view shard that runs.
-fn pass_sent<F: Fronts>(
-    alloc: Global,
-    machine: &mut Machine<F>,
-    stage: usize,
-    reader: usize,
-) -> Result<Reply, Refused>
-    requires agree { AgreeingAreOne F.are_one }
-    requires whole { IsWhole F.log F.authors (held machine.old) }
-    requires up { is_up (slice_get (map view_node (held machine.old).views) reader) ≡ true }
-    requires there { reader < length (held machine.old).views }
-    ensures done { IfOk result (λ r. IsDone F.log F.authors
-        (stage_came (world_of F.log F.authors (held machine.old)) stage reader
-        (queue (sent_in (held machine.old).to_view) reader stage)) (reply_of r)
-        (held machine.new)) }
-{
+    let runs = view_runs(&machine.views, reader);
     let Some(packet) = machine.to_view.take(reader, stage) else {
         return Ok(Reply::Idle);
     };
+    if !runs {
+        return Ok(Reply::Delivered);
+    }
     let reply = give_view(alloc, machine, reader, ToView::Packet { stage, packet })?;
     Ok(reply)
-}
-
-/// The first packet is lost.
-fn lose_sent<F: Fronts>(machine: &mut Machine<F>, stage: usize, reader: usize) -> Reply
-    requires whole { IsWhole F.log F.authors (held machine.old) }
-    requires down { is_up (slice_get (map view_node (held machine.old).views) reader) ≡ false }
-    ensures done { IsDone F.log F.authors
-        (stage_came (world_of F.log F.authors (held machine.old)) stage reader
-        (queue (sent_in (held machine.old).to_view) reader stage)) (reply_of result)
-        (held machine.new) }
-{
-    if lose(&mut machine.to_view, reader, stage) {
-        Reply::Delivered
-    } else {
-        Reply::Idle
-    }
-}
-
-/// Takes the first message off a queue; answers whether there was one.
-fn lose<P: Drop>(queues: &mut Queues<P>, receiver: usize, sender: usize) -> bool
-    ensures lost { IsTrue result → IsLost queues.old receiver sender queues.new }
-    ensures none { IsFalse result → queue queues.old receiver sender ≡ [] }
-    ensures same { IsFalse result → queues.new ≡ queues.old }
-{
-    let Some(_lost) = queues.take(receiver, sender) else {
-        return false;
-    };
-    true
 }

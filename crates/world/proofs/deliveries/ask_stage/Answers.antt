@@ -1,23 +1,29 @@
-use Rattle.std.proofs.Common.{refl}
-use Rattle.world.specs.Held.{stage_node}
+use Rattle.std.proofs.Common.{◌<◌, length, sym, subst, ◌∙◌}
+use Rattle.packet.specs.Readers.{view_of}
+use Rattle.world.specs.Held.{stage_node, IsAsk}
+use Rattle.world.specs.Machines.{held}
 use Rattle.world.proofs.Meeting.{seen_there, seen_up}
+use Rattle.world.proofs.Queued.{first_queued}
+use Rattle.world.proofs.Steps.{request_off, request_passed, request_placed, request_still}
 use Rattle.world.proofs.deliveries.ask_stage.Goals as goal
 
-pub pass_request-requires : goal.pass_request-requires
-pass_request-requires g c = record {
-  whole = c.requires.whole;
-  up = seen_up stage_node c.deref.result.now c.args.machine.now.stages.items c.args.stage _ c.if-stage_runs.ensures.runs c.deref.ensures.value;
-  there = seen_there c.deref.result.now c.args.machine.now.stages.items c.args.stage (c.if-stage_runs.ensures.there refl) c.deref.ensures.value;
-}
+pub give_stage-requires : goal.give_stage-requires
+give_stage-requires g c =
+    let asks = first_queued (IsAsk c.args.machine.now.places) c.args.machine.now.from_view c.args.stage c.args.reader c.in-Some.request c.in-Some.ensures.first.rest c.in-Some.ensures.first.was c.requires.whole.placed.from_view in
+    record {
+      meets = λ d at running. subst (λ p. view_of c.in-Some.request.tag < length p.views) (sym (c.requires.whole.placed.stages.each c.args.stage d at).plan) asks;
+      there = seen_there c.deref.result.now c.args.machine.now.stages.items c.args.stage (c.stage_runs-runs.ensures.there c.if-not-runs.false) c.deref.ensures.value;
+      placed = request_placed g.F.Fronts.log g.F.Fronts.authors (held c.args.machine.now) c.args.stage c.args.reader c.in-Some.request c.take.new.self c.requires.whole.placed c.in-Some.ensures.first;
+      up = seen_up stage_node c.deref.result.now c.args.machine.now.stages.items c.args.stage _ (sym c.if-not-runs.false ∙ c.stage_runs-runs.ensures.runs) c.deref.ensures.value;
+    }
 
-pub lose_request-requires : goal.lose_request-requires
-lose_request-requires g c = record {
-  whole = c.requires.whole;
-  down = seen_up stage_node c.deref.result.now c.args.machine.now.stages.items c.args.stage _ c.if-stage_runs.ensures.runs c.deref.ensures.value;
-}
+pub returns : goal.returns
+returns g c = record { done = request_passed g.F.Fronts.log g.F.Fronts.authors (held c.args.machine.now) c.args.stage c.args.reader c.in-Some.request c.take.new.self (held c.give_stage.new.machine) c.requires.whole.placed c.in-Some.ensures.first c.in_ok-give_stage.ensures.given }
 
-pub returns-then-stage_runs : goal.returns-then-stage_runs
-returns-then-stage_runs g c = record { done = c.pass_request.ensures.done }
+pub returns-in_default : goal.returns-in_default
+returns-in_default g c = record { done = request_still g.F.Fronts.log g.F.Fronts.authors (held c.args.machine.now) c.args.stage c.args.reader c.take.new.self c.requires.whole.placed c.in_default.ensures.none c.in_default.ensures.same }
 
-pub returns-else-stage_runs : goal.returns-else-stage_runs
-returns-else-stage_runs g c = record { done = c.lose_request.ensures.done }
+pub returns-then-not-runs : goal.returns-then-not-runs
+returns-then-not-runs g c =
+    let down = seen_up stage_node c.deref.result.now c.args.machine.now.stages.items c.args.stage _ (sym c.if-not-runs.true ∙ c.stage_runs-runs.ensures.runs) c.deref.ensures.value in
+    record { done = request_off g.F.Fronts.log g.F.Fronts.authors (held c.args.machine.now) c.args.stage c.args.reader c.in-Some.request c.take.new.self c.requires.whole.placed c.in-Some.ensures.first down }
