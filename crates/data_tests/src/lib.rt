@@ -3,18 +3,4 @@
 #![tactic(auto)]
 
 #[cfg(test)]
-mod evaluator;
-#[cfg(test)]
-mod gathers;
-#[cfg(test)]
-mod histories;
-#[cfg(test)]
-mod parts;
-#[cfg(test)]
-mod plans;
-#[cfg(test)]
-mod sides;
-#[cfg(test)]
-mod stages;
-#[cfg(test)]
-mod words;
+mod tests;

@@ -1,7 +1,7 @@
 //! Steps of stages beside the whole output over plain bags.
 ghost use Rattle.std.specs.Prelude.{◌≢◌};
 
-use crate::words::{records, written_records};
+use super::words::{records, written_records};
 use ops::shape::Shape;
 use ops::side::{Side, SideRows, have_column};
 use ops::stage::{Stage, full};

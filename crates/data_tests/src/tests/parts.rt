@@ -1,6 +1,6 @@
 //! Filters, and what is made anew of a left row and of a group.
-use crate::plans::{CLICKS, side};
-use crate::words::{records, row, rows, value, written, written_records};
+use super::plans::{CLICKS, side};
+use super::words::{records, row, rows, value, written, written_records};
 use ops::filter;
 use ops::shape::{Shape, delta_of};
 use ops::total::all_fit_64_bits;

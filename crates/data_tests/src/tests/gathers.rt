@@ -3,7 +3,7 @@ ghost use Rattle.std.specs.Prelude.{List, IfOk};
 ghost use Rattle.row.specs.Cells.{Cells};
 ghost use Rattle.row.specs.Changes.{IsCovered};
 
-use crate::words::{push_row, row, rows, value};
+use super::words::{push_row, row, rows, value};
 use partial::gather::Gather;
 use partial::partial::{Evicted, Partial};
 use row::bag::Bag;

@@ -1,6 +1,6 @@
 //! The evaluator over worked plans of the four shapes.
-use crate::plans::{CLICKS, PlanOf, VOTING, plan};
-use crate::words::{entry, value, written};
+use super::plans::{CLICKS, PlanOf, VOTING, plan};
+use super::words::{entry, value, written};
 use plain::front::{Front, Line};
 use plain::query::answer;
 use plain::rows::refusal;

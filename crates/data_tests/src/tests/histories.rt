@@ -1,6 +1,6 @@
 //! Verdicts on histories of two sessions, one for each condition of an item.
-use crate::plans::{CLICKS, PlanOf, VOTING, plan};
-use crate::words::{entry, rows, value};
+use super::plans::{CLICKS, PlanOf, VOTING, plan};
+use super::words::{entry, rows, value};
 use model::floors::Floors;
 use model::item::{Fence, Item, Read, Write};
 use model::lengths::Lengths;

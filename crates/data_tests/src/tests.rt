@@ -1,0 +1,9 @@
+//! The tests.
+mod evaluator;
+mod gathers;
+mod histories;
+mod parts;
+mod plans;
+mod sides;
+mod stages;
+mod words;
