@@ -60,6 +60,13 @@ impl<J: Naming> Model for Declined<J> {
 pub type Reply<J> = Result<Written<J>, Declined<J>>;
 
 impl<J: Naming> Write<J> {
+    /// The base shard that it goes to.
+    pub fn base(&self) -> usize
+        ensures { result ≡ self.now.base }
+    {
+        self.base
+    }
+
     /// A write under a number of its session's calls.
     pub fn new(base: usize, session: usize, number: u64, entry: Entry) -> Write<J>
         requires base { base < base_count J.plan }
@@ -76,13 +83,6 @@ impl<J: Naming> Write<J> {
             entry,
             of: PhantomData,
         }
-    }
-
-    /// The base shard that it goes to.
-    pub fn base(&self) -> usize
-        ensures { result ≡ self.now.base }
-    {
-        self.base
     }
 
     /// The session that waits for its reply.

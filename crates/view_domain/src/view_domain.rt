@@ -110,20 +110,6 @@ impl<'p, F: Fronts> ViewDomain<'p, F> {
         self.mode
     }
 
-    /// The view that it is a shard of.
-    pub fn view(&self) -> usize
-        ensures { result ≡ self.now.view }
-    {
-        self.view
-    }
-
-    /// How many requests it has sent; the count stays at the greatest number.
-    pub fn asked(&self) -> u64
-        ensures { result ≡ self.now.asked }
-    {
-        self.asked
-    }
-
     /// Stops: what it holds stays, and from then on it answers `Stopped` to every message. Where it
     /// does not run, nothing changes.
     pub fn stop(&mut self)
@@ -133,6 +119,13 @@ impl<'p, F: Fronts> ViewDomain<'p, F> {
         if self.mode == Mode::Running {
             self.mode = Mode::Stopped;
         }
+    }
+
+    /// The view that it is a shard of.
+    pub fn view(&self) -> usize
+        ensures { result ≡ self.now.view }
+    {
+        self.view
     }
 
     /// The rows of a filled key, also where it has stopped: unless it is broken, those of a key of
@@ -153,6 +146,13 @@ impl<'p, F: Fronts> ViewDomain<'p, F> {
         ensures of { self.now.mode ≢ Mode.Broken → Each (AreOf self.now.plan) result.now }
     {
         &self.cut
+    }
+
+    /// How many requests it has sent; the count stays at the greatest number.
+    pub fn asked(&self) -> u64
+        ensures { result ≡ self.now.asked }
+    {
+        self.asked
     }
 
     /// Makes a filled key a hole. `NoMemory` breaks the domain.
