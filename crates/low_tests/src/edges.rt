@@ -52,10 +52,7 @@ fn sends(alloc: Global) -> Result<(usize, usize, usize), Refused> {
 
 #[test]
 fn an_edge_is_taken(rt: HostRuntime) -> Result<(), Fail> {
-    let Ok(sent) = sends(rt.alloc()) else {
-        return Err(Fail::from(AllocError));
-    };
-    assert!(rt; sent == (2, 0, 1));
+    assert!(rt; sends(rt.alloc())? == (2, 0, 1));
     Ok(())
 }
 

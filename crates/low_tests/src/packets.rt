@@ -81,9 +81,6 @@ fn room<F: Fronts>(alloc: Global) -> Result<usize, Refused> {
 
 #[test]
 fn an_outbox_has_room(rt: HostRuntime) -> Result<(), Fail> {
-    let Ok(packets) = room::<ListFront>(rt.alloc()) else {
-        return Err(Fail::from(AllocError));
-    };
-    assert!(rt; packets == 3);
+    assert!(rt; room::<ListFront>(rt.alloc())? == 3);
     Ok(())
 }

@@ -34,10 +34,7 @@ fn carries(alloc: Global) -> Result<bool, Refused> {
 
 #[test]
 fn a_queue_carries_a_message(rt: HostRuntime) -> Result<(), Fail> {
-    let Ok(carried) = carries(rt.alloc()) else {
-        return Err(Fail::from(AllocError));
-    };
-    assert!(rt; carried);
+    assert!(rt; carries(rt.alloc())?);
     Ok(())
 }
 
@@ -148,9 +145,6 @@ fn ends_as_told(alloc: Global) -> Result<bool, Refused> {
 
 #[test]
 fn a_fence_ends(rt: HostRuntime) -> Result<(), Fail> {
-    let Ok(ended) = ends_as_told(rt.alloc()) else {
-        return Err(Fail::from(AllocError));
-    };
-    assert!(rt; ended);
+    assert!(rt; ends_as_told(rt.alloc())?);
     Ok(())
 }
