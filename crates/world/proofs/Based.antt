@@ -5,7 +5,7 @@ use Rattle.model.specs.Histories.{Author}
 use Rattle.model.specs.Legal.{most_sessions}
 use Rattle.model.specs.Places.{base_count}
 use Rattle.packet.specs.Messages.{BasePacketView, Mark}
-use Rattle.protocol.specs.Bases.{Base, ToBase, marker, Done}
+use Rattle.protocol.specs.Bases.{Base, ToBase, Verdict, marker, Done}
 use Rattle.protocol.specs.BaseSteps.{step}
 use Rattle.protocol.specs.Worlds.{Node, World}
 use Rattle.protocol.specs.WorldSteps.{base_did, marked, base_takes, is_up}
@@ -14,7 +14,7 @@ use Rattle.base_domain.specs.Domains.{Domain as BaseDomain}
 use Rattle.base_domain.specs.Received.{base_at}
 use Rattle.world.specs.Held.{Held, Are, IsPlaced, IsBaseOf, KnowsOwn, world_of, base_node}
 use Rattle.world.specs.Rounds.{IsAt}
-use Rattle.world.specs.Turned.{IsBaseTurn}
+use Rattle.world.specs.Turned.{IsBaseGiven, IsBaseTurn}
 use Rattle.world.proofs.Steps.{set_are}
 use Rattle.world.proofs.Rounded.{base_plan, drop_end}
 
@@ -48,6 +48,21 @@ module _ {F : Type 0} (log : F → LogView) (authors : F → List Author) where
       ap (λ ns. made w ns ts) (map_set (base_node log authors) h.bases b new ∙ ap (slice_set (map (base_node log authors) h.bases) b) t.node)
       ∙ ap (λ q. made w (slice_set (map (base_node log authors) h.bases) b (record { is = d.base; runs = true })) q) t.sent
 
+  -- a message to a base shard leaves the plan and the sessions
+  module _ (h new : Held F) (b : ℕ) (m : ToBase) (v : Option Verdict) (g : IsBaseGiven log authors b m v h new) where
+    pub given_plan : new.plan ≡ h.plan
+    given_plan = ap (λ (x : Held F). x.plan) g.is
+
+    pub given_sessions : new.sessions ≡ h.sessions
+    given_sessions = ap (λ (x : Held F). x.sessions) g.is
+
+  -- the turn is that of base shard b of the plan
+  pub own_turn : (h : Held F) (b : ℕ) (old new : BaseDomain F) (ts : List (List (List BasePacketView))) (d : Done) → IsPlaced log authors h → slice_get h.bases b ≡ Some old → IsBaseTurn log authors (log old.front).plan (log old.front).base d h.to_stage new ts
+      → IsBaseTurn log authors h.plan b d h.to_stage new ts
+  own_turn h b old new ts d p at turn =
+      let is = p.bases.each b old at in
+      subst (λ c. IsBaseTurn log authors h.plan c d h.to_stage new ts) is.base (subst (λ q. IsBaseTurn log authors q (log old.front).base d h.to_stage new ts) is.plan turn)
+
   -- the log of the shard is as it was
   pub quiet_placed : (h : Held F) (b : ℕ) (old new : BaseDomain F) (ts : List (List (List BasePacketView))) (d : Done) → IsPlaced log authors h → slice_get h.bases b ≡ Some old → base_node log authors new ≡ base_node log authors old
       → IsBaseTurn log authors h.plan b d h.to_stage new ts → IsPlaced log authors (with_base h b new ts)
@@ -65,19 +80,14 @@ module _ {F : Type 0} (log : F → LogView) (authors : F → List Author) where
       }
 
   module _ (h : Held F) (b : ℕ) (m : Mark) (p : IsPlaced log authors h) where
-    pub marker_passed : (old new : BaseDomain F) (ts : List (List (List BasePacketView))) → slice_get h.bases b ≡ Some old → old.stopped ≡ false
-        → IsBaseTurn log authors (log old.front).plan (log old.front).base (step (base_at log authors old) (marker m)) h.to_stage new ts
-        → IsAt log authors (base_takes (world_of log authors h) b (slice_get (map (base_node log authors) h.bases) b) (marker m)) (with_base h b new ts)
-    marker_passed old new ts at running turn =
-        let is = p.bases.each b old at in
-        let d = step (base_at log authors old) (marker m) in
-        let own : IsBaseTurn log authors h.plan b d h.to_stage new ts
-        = subst (λ c. IsBaseTurn log authors h.plan c d h.to_stage new ts) is.base (subst (λ q. IsBaseTurn log authors q (log old.front).base d h.to_stage new ts) is.plan turn) in
-        let same : base_node log authors new ≡ base_node log authors old = turn.node ∙ ap (λ t. node (base_at log authors old) (not t)) (sym running) in
-        record {
-          world = base_world h b new ts d own ∙ sym (base_up (world_of log authors h) b (base_node log authors old) (marker m) (map_get (base_node log authors) h.bases b old at) (ap not running));
-          placed = quiet_placed h b old new ts d p at same own;
-        }
+    pub marker_passed : (v : Option Verdict) (new : Held F) → IsBaseGiven log authors b (marker m) v h new → IsAt log authors (base_takes (world_of log authors h) b (slice_get (map (base_node log authors) h.bases) b) (marker m)) new
+    marker_passed v new g =
+        let d = step (base_at log authors g.domain) (marker m) in
+        let own = own_turn h b g.domain g.later g.queues d p g.there g.turn in
+        let same : base_node log authors g.later ≡ base_node log authors g.domain = own.node ∙ ap (λ t. node (base_at log authors g.domain) (not t)) (sym g.running) in
+        let up = base_up (world_of log authors h) b (base_node log authors g.domain) (marker m) (map_get (base_node log authors) h.bases b g.domain g.there) (ap not g.running) in
+        subst (IsAt log authors (base_takes (world_of log authors h) b (slice_get (map (base_node log authors) h.bases) b) (marker m))) (sym g.is)
+        (record { world = base_world h b g.later g.queues d own ∙ sym up; placed = quiet_placed h b g.domain g.later g.queues d p g.there same own })
 
     pub marker_lost : is_up (slice_get (map (base_node log authors) h.bases) b) ≡ false → IsAt log authors (base_takes (world_of log authors h) b (slice_get (map (base_node log authors) h.bases) b) (marker m)) h
     marker_lost down = record { world = sym (base_down (world_of log authors h) b (slice_get (map (base_node log authors) h.bases) b) (marker m) down); placed = p }

@@ -25,9 +25,9 @@ use Rattle.base_domain.specs.Domains.{Domain as BaseDomain}
 use Rattle.base_domain.specs.Received.{base_at, IsFor}
 use Rattle.world.specs.Held.{Held, Are, IsPlaced, IsWhole, IsDone, IsBaseOf, KnowsOwn, world_of, base_node}
 use Rattle.world.specs.Noted.{AreLogged, IsSmall, noted}
-use Rattle.world.specs.Turned.{IsBaseTurn}
+use Rattle.world.specs.Turned.{IsBaseGiven, IsBaseTurn}
 use Rattle.world.proofs.Acks.{knows_still, session_world, session_placed}
-use Rattle.world.proofs.Based.{with_base, base_world, quiet_placed}
+use Rattle.world.proofs.Based.{with_base, base_world, own_turn, quiet_placed}
 use Rattle.world.proofs.Fenced.{called}
 use Rattle.world.proofs.Looking.{stands}
 use Rattle.world.proofs.Steps.{set_are}
@@ -159,9 +159,7 @@ module _ {F : Type 0} (log : F → LogView) (authors : F → List Author) where
     nodes = map (base_node log authors) h.bases
 
     own : IsBaseTurn log authors h.plan b d h.to_stage new ts
-    own =
-        let is = p.bases.each b old at in
-        subst (λ c. IsBaseTurn log authors h.plan c d h.to_stage new ts) is.base (subst (λ q. IsBaseTurn log authors q (log old.front).base d h.to_stage new ts) is.plan turn)
+    own = own_turn log authors h b old new ts d p at turn
 
     there : slice_get nodes b ≡ Some (base_node log authors old)
     there = map_get (base_node log authors) h.bases b old at
@@ -218,8 +216,8 @@ module _ {F : Type 0} (log : F → LogView) (authors : F → List Author) where
           node : Base → Bool → Node Base
           node x t = record { is = x; runs = t }
 
-      pub has_written : (reply : Reply) → reply ≡ verdict_of h.plan b v → AreLogged nodes → IsDone log authors (written w se m e b (slice_get nodes b)) reply (after two)
-      has_written reply says-so logged =
+      write_noted : (reply : Reply) → reply ≡ verdict_of h.plan b v → AreLogged nodes → IsDone log authors (written w se m e b (slice_get nodes b)) reply (after two)
+      write_noted reply says-so logged =
           subst (λ x. IsDone log authors x reply (after two)) (sym written_is)
           (record { world = after_world; reply = says-so ∙ ap (verdict_of h.plan b) said; placed = by v refl })
         where
@@ -227,6 +225,18 @@ module _ {F : Type 0} (log : F → LogView) (authors : F → List Author) where
           by None e = still_placed (subst IsQuiet (sym e) tt) (ap (λ v. noted b v s) e)
           by (Some (accepted i)) e = put_placed i e logged
           by (Some (declined r)) e = still_placed (subst IsQuiet (sym e) tt) (ap (λ v. noted b v s) e)
+
+  -- the base shard has had the write, and the session has noted the answer
+  pub has_written : (h new : Held F) (b se m : ℕ) (e : Change) (v : Option Verdict) (s two : Session) (reply : Reply) → IsPlaced log authors h → AreLogged (map (base_node log authors) h.bases) → IsBaseGiven log authors b (write se m e) v h new
+      → slice_get new.sessions se ≡ Some s → two ≡ noted b v s → reply ≡ verdict_of new.plan b v
+      → IsDone log authors (written (world_of log authors h) se m e b (slice_get (map (base_node log authors) h.bases) b)) reply (record new { sessions = slice_set new.sessions se two })
+  has_written h new b se m e v s two reply p logged g =
+      subst (λ x. slice_get x.sessions se ≡ Some s → two ≡ noted b v s → reply ≡ verdict_of x.plan b v
+      → IsDone log authors (written (world_of log authors h) se m e b (slice_get (map (base_node log authors) h.bases) b)) reply (record x { sessions = slice_set x.sessions se two })) (sym g.is)
+      (λ mine is said. write_noted h b se m e g.domain g.later g.queues p g.there g.running g.turn s two mine v g.reply is reply said logged)
+
+  pub given_small : (h new : Held F) (b se m : ℕ) (e : Change) (v : Option Verdict) → IsBaseGiven log authors b (write se m e) v h new → IsSmall v
+  given_small h new b se m e v g = small_index (base_at log authors g.domain) se m e v g.reply
 
   -- the base shard has stopped
   pub not_written : (h : Held F) (b se m : ℕ) (e : Change) → IsPlaced log authors h → b < base_count h.plan → false ≡ is_up (slice_get (map (base_node log authors) h.bases) b)

@@ -1,18 +1,21 @@
 -- What one message makes of one domain and of the queues that it sends to.
-use Rattle.std.specs.Prelude.{◌≡◌, ℕ, true, List, Some, slice_get, slice_set}
+use Rattle.std.specs.Prelude.{◌≡◌, ℕ, true, false, List, Option, Some, slice_get, slice_set}
 use Rattle.plan.specs.Layouts.{Layout}
 use Rattle.model.specs.Places.{sources}
 use Rattle.model.specs.Fronts.{LogView}
 use Rattle.model.specs.Histories.{Author}
+use Rattle.model.specs.Legal.{most_sessions}
 use Rattle.packet.specs.Messages.{Ask, BasePacketView, StagePacketView, none_of}
 use Rattle.packet.specs.declared.mode.Mode.TheVariants as mode
 use Rattle.protocol.specs.Bases as base
+use Rattle.protocol.specs.BaseSteps as on_base
 use Rattle.protocol.specs.Stages as stage
 use Rattle.protocol.specs.StageSteps as on_stage
 use Rattle.protocol.specs.Views as view
 use Rattle.protocol.specs.Edges.{pushed, source_place}
 use Rattle.protocol.specs.WorldSteps.{base_sent}
 use Rattle.base_domain.specs.Domains.{Domain as BaseDomain}
+use Rattle.base_domain.specs.Received.{IsFor, base_at}
 use Rattle.stage_domain.specs.Domains.{Domain as StageDomain, IsFrom, stage_of}
 use Rattle.view_domain.specs.Domains.{Domain as ViewDomain}
 use Rattle.world.specs.Held.{Held, IsBaseOf, IsStageOf, IsViewOf, AreQueued, IsSentBy, IsAsk, sent_in, base_node, stage_node, view_node}
@@ -49,3 +52,18 @@ module _ {F : Type 0} (log : F → LogView) (authors : F → List Author) where
     pub is : IsBaseOf log authors p b new
     pub sent : queues ≡ base_sent (source_place p b) d.sent old
     pub queued : AreQueued (IsFrom p) old → AreQueued (IsFrom p) queues
+
+  -- the message is one for base shard b
+  abbrev pub IsForBase : ℕ → base.ToBase → Held F → Type 0
+  IsForBase b m h = (d : BaseDomain F) → slice_get h.bases b ≡ Some d → IsFor (log d.front) most_sessions m
+
+  -- base shard b has had this message and has answered so, and nothing else has changed
+  pub record IsBaseGiven (b : ℕ) (m : base.ToBase) (v : Option base.Verdict) (old new : Held F) : Type 0 where
+    pub domain : BaseDomain F
+    pub later : BaseDomain F
+    pub queues : List (List (List BasePacketView))
+    pub there : slice_get old.bases b ≡ Some domain
+    pub running : domain.stopped ≡ false
+    pub turn : IsBaseTurn (log domain.front).plan (log domain.front).base (on_base.step (base_at log authors domain) m) old.to_stage later queues
+    pub reply : v ≡ (on_base.step (base_at log authors domain) m).reply
+    pub is : new ≡ record old { bases = slice_set old.bases b later; to_stage = queues }

@@ -1,5 +1,5 @@
 //! Fences of sessions: the marker that goes to each source.
-ghost use Rattle.std.specs.Prelude.{◌≡◌, ◌<◌, ◌&&◌, true, false, Some, length, map, slice_get, IfOk, IsTrue, OnOk};
+ghost use Rattle.std.specs.Prelude.{◌≡◌, ◌<◌, ◌&&◌, Some, length, map, slice_get, IfOk, OnOk};
 ghost use Rattle.std.specs.List.{list_all};
 ghost use Rattle.model.specs.Places.{sources};
 ghost use Rattle.packet.specs.Codes.{mark_of};
@@ -10,8 +10,8 @@ ghost use Rattle.world.specs.Held.{IsDone, IsPlaced, IsWhole, base_node, runs, s
 ghost use Rattle.world.specs.Machines.{held};
 ghost use Rattle.world.specs.Rounds.{IsAt};
 
+use crate::bases::{base_runs, give_base};
 use crate::machine::Machine;
-use crate::turns::turn_base;
 use base_domain::base_domain::BaseDomain;
 use base_domain::message::ToBase;
 use model::fronts::Fronts;
@@ -23,18 +23,6 @@ use schedule::places::Places;
 use stage_domain::stage_domain::StageDomain;
 use std::alloc::Global;
 use view_domain::view_domain::ViewDomain;
-
-/// Whether there is the base shard, and it runs.
-pub(crate) fn base_runs<F: Fronts>(bases: &[BaseDomain<F>], base: usize) -> bool
-    ensures runs { result
-        ≡ is_node_up (slice_get (map (base_node F.log F.authors) bases.now) base) }
-    ensures there { IsTrue result → base < length bases.now }
-{
-    match bases.get(base) {
-        Some(domain) => !domain.is_stopped(),
-        None => false,
-    }
-}
 
 /// A base shard takes a marker, if it runs. Errors: then nothing is said of the machine.
 fn give_marker<F: Fronts>(
@@ -53,18 +41,7 @@ fn give_marker<F: Fronts>(
     if !base_runs(&machine.bases, base) {
         return Ok(());
     }
-    let stages = machine.places.plan().stages();
-    let source = machine.places.source_place(base);
-    let message = ToBase::Marker(marker);
-    turn_base(
-        alloc,
-        words,
-        &mut machine.bases[base],
-        message,
-        stages,
-        source,
-        &mut machine.to_stage,
-    )?;
+    give_base(alloc, words, machine, base, ToBase::Marker(marker))?;
     Ok(())
 }
 

@@ -1,6 +1,7 @@
 //! All domains of a plan and all edges between them in one value: every schedule, with no thread.
 #![tactic(auto)]
 
+mod bases;
 mod counts;
 mod deliveries;
 mod events;

@@ -12,9 +12,8 @@ ghost use Rattle.world.specs.Held.{IsDone, IsPlaced, IsWhole, base_node, world_o
 ghost use Rattle.world.specs.Machines.{held};
 ghost use Rattle.world.specs.Noted.{AreLogged, IsSmall, noted};
 
-use crate::fences::base_runs;
+use crate::bases::{base_runs, give_base};
 use crate::machine::Machine;
-use crate::turns::turn_base;
 use base_domain::message::{ToBase, Write};
 use model::entry::Entry;
 use model::fronts::Fronts;
@@ -88,21 +87,12 @@ fn write_at<F: Fronts>(
     let Ok(entry) = entry.try_clone(alloc) else {
         return Err(Refused::NoMemory);
     };
-    let stages = machine.places.plan().stages();
-    let source = machine.places.source_place(base);
-    let answer = turn_base(
-        alloc,
-        words,
-        &mut machine.bases[base],
-        ToBase::Write(Write {
-            session,
-            number,
-            entry,
-        }),
-        stages,
-        source,
-        &mut machine.to_stage,
-    )?;
+    let message = ToBase::Write(Write {
+        session,
+        number,
+        entry,
+    });
+    let answer = give_base(alloc, words, machine, base, message)?;
     let reply = note(&mut machine.callers[session], &machine.places, base, answer);
     Ok(reply)
 }
