@@ -9,7 +9,7 @@ use Rattle.model.specs.Histories.{Author}
 use Rattle.model.specs.Refusals.{read_refusal}
 use Rattle.packet.specs.Readers.{Reader, readers}
 use Rattle.protocol.specs.Events.{Reply, evicted, refused}
-use Rattle.protocol.specs.Views.{View, order}
+use Rattle.protocol.specs.Views.{View, ToView, order}
 use Rattle.protocol.specs.Worlds.{Node, World}
 use Rattle.protocol.specs.WorldSteps.{Did, says, evict_view_in, reader_of, view_order, view_takes, is_up}
 use Rattle.protocol.proofs.Lists.{map_get}
@@ -21,6 +21,11 @@ evict_is : (w : World) (o : Option ℕ) (i : ℕ) (k : Datum) (q : Option Refuse
 evict_is w o i k q r named free at = ap (λ x. evict_view_in w x k q) named ∙ (ap (evict_view_in w (Some i) k) free ∙ ap (λ x. view_order w k x (slice_get w.views x)) (sym at))
 
 module _ {F : Type 0} (log : F → LogView) (authors : F → List Author) where
+  -- what a view shard has had of a key, it has had of the same key
+  pub same_key : (h new : Held F) (r : ℕ) (m : Datum → ToView) (j k : Datum) (reply : Reply) → j ≡ k → IsDone log authors (view_takes (world_of log authors h) r (slice_get (map view_node h.views) r) (m j)) reply new
+      → IsDone log authors (view_takes (world_of log authors h) r (slice_get (map view_node h.views) r) (m k)) reply new
+  same_key h new r m j k reply same done = subst (λ k. IsDone log authors (view_takes (world_of log authors h) r (slice_get (map view_node h.views) r) (m k)) reply new) same done
+
   -- a domain that runs has been ordered to evict the key
   pub ordered : (h new : Held F) (r : ℕ) (k : Datum) (o : Option (Node View)) (reply : Reply) → is_up o ≡ true → IsDone log authors (view_takes (world_of log authors h) r o (order k)) reply new → IsDone log authors (view_order (world_of log authors h) k r o) evicted new
   ordered h new r k None reply up done = cc

@@ -1,11 +1,9 @@
-use Rattle.std.proofs.Common.{◌∙◌, Some, slice_get, map, ap, sym, subst}
+use Rattle.std.proofs.Common.{◌∙◌, Some, ap, sym}
 use Rattle.row.specs.Cells.{datum_of}
 use Rattle.protocol.specs.Views.{want}
-use Rattle.protocol.specs.WorldSteps.{view_takes}
-use Rattle.schedule.specs.Codes.{reply_of}
-use Rattle.world.specs.Held.{IsDone, view_node, world_of}
 use Rattle.world.specs.Machines.{held}
 use Rattle.world.proofs.Meeting.{there_at}
+use Rattle.world.proofs.Ordered.{same_key}
 use Rattle.world.proofs.Wanting.{shown_already, cannot_ask, has_asked, is_up_of}
 use Rattle.world.proofs.wants.want_at.Goals as goal
 
@@ -19,13 +17,7 @@ pub give_view-requires-clause-up : goal.give_view-requires-clause-up
 give_view-requires-clause-up g c = is_up_of g.F.Fronts.log g.F.Fronts.authors _ _ c.if-not-can_ask.ensures
 
 pub returns : goal.returns
-returns g c =
-    let log = g.F.Fronts.log in
-    let authors = g.F.Fronts.authors in
-    let h = held c.args.machine.now in
-    let node = slice_get (map view_node c.args.machine.now.views.items) c.args.reader in
-    let reply = reply_of c.in_ok-give_view.field-0 in
-    record {
-      done = has_asked log authors h (datum_of c.args.key.now) c.args.reader c.index.result.now c.requires.placed (there_at c.args.machine.now.views.items c.args.reader _ c.requires.there ∙ ap Some (sym c.index.ensures)) reply (held c.give_view.new.machine) c.if-is_filled.ensures c.if-not-can_ask.ensures
-          (subst (λ k. IsDone log authors (view_takes (world_of log authors h) c.args.reader node (want k)) reply (held c.give_view.new.machine)) c.in-Ok.ensures c.in_ok-give_view.ensures.done);
-    }
+returns g c = record {
+  done = has_asked g.F.Fronts.log g.F.Fronts.authors (held c.args.machine.now) (datum_of c.args.key.now) c.args.reader c.index.result.now c.requires.placed (there_at c.args.machine.now.views.items c.args.reader _ c.requires.there ∙ ap Some (sym c.index.ensures)) _ (held c.give_view.new.machine) c.if-is_filled.ensures c.if-not-can_ask.ensures
+      (same_key g.F.Fronts.log g.F.Fronts.authors (held c.args.machine.now) (held c.give_view.new.machine) c.args.reader want _ (datum_of c.args.key.now) _ c.in-Ok.ensures c.in_ok-give_view.ensures.done);
+}
