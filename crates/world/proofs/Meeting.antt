@@ -42,6 +42,10 @@ seen_up f xs ys i b is same = sym (is ∙ ap (λ zs. is_up (slice_get (map f zs)
 pub seen_there : {D : Type 0} (xs ys : List D) (i : ℕ) → i < length xs → xs ≡ ys → i < length ys
 seen_there xs ys i lt same = subst (λ zs. i < length zs) same lt
 
+-- a domain that is up runs
+pub up_runs : {D X : Type 0} (f : D → Node X) (xs : List D) (i : ℕ) (d : D) → slice_get xs i ≡ Some d → is_up (slice_get (map f xs) i) ≡ true → (f d).runs ≡ true
+up_runs f xs i d at up = subst (λ o. is_up o ≡ true) (map_get f xs i d at) up
+
 pub mode_runs : (m : Mode) → runs m ≡ true → m ≡ mode.Running
 mode_runs mode.Running e = refl
 mode_runs mode.Stopped e = cc

@@ -1,11 +1,9 @@
-use Rattle.std.proofs.Common.{Some, ap, refl, slice_get, subst, sym, true, ◌∙◌, ◌≡◌}
+use Rattle.std.proofs.Common.{Some, ap, refl, slice_get, sym, ◌∙◌, ◌≡◌}
 use Rattle.plan.specs.Layouts.{Layout}
 use Rattle.protocol.specs.Edges.{source_place}
-use Rattle.protocol.specs.WorldSteps.{is_up}
-use Rattle.protocol.proofs.Lists.{map_get}
 use Rattle.world.specs.Held.{base_node}
 use Rattle.world.proofs.Based.{not_stopped}
-use Rattle.world.proofs.Meeting.{there_at}
+use Rattle.world.proofs.Meeting.{there_at, up_runs}
 use Rattle.world.proofs.bases.give_base.Goals as goal
 
 abbrev at : (g : _) (c : goal.After-turn_base-arg-1 g) → slice_get c.args.machine.now.bases.items c.args.base ≡ Some c.index_mut.result.now
@@ -16,7 +14,7 @@ turn_base-requires-clause-sessions g c = (c.requires.placed.bases.each c.args.ba
 
 pub turn_base-requires-clause-runs : goal.turn_base-requires-clause-runs
 turn_base-requires-clause-runs g c =
-    not_stopped c.index_mut.result.now.stopped (subst (λ o. is_up o ≡ true) (map_get (base_node g.F.Fronts.log g.F.Fronts.authors) c.args.machine.now.bases.items c.args.base c.index_mut.result.now (at g c)) c.requires.up)
+    not_stopped c.index_mut.result.now.stopped (up_runs (base_node g.F.Fronts.log g.F.Fronts.authors) c.args.machine.now.bases.items c.args.base c.index_mut.result.now (at g c) c.requires.up)
 
 pub turn_base-requires-clause-edges : goal.turn_base-requires-clause-edges
 turn_base-requires-clause-edges g c =
@@ -33,7 +31,7 @@ turn_base-requires-clause-of g c = c.requires.of c.index_mut.result.now (at g c)
 pub returns : goal.returns
 returns g c =
     let at = there_at c.args.machine.now.bases.items c.args.base _ c.requires.there ∙ ap Some (sym c.index_mut.ensures.value) in
-    let running = not_stopped c.index_mut.result.now.stopped (subst (λ o. is_up o ≡ true) (map_get (base_node g.F.Fronts.log g.F.Fronts.authors) c.args.machine.now.bases.items c.args.base c.index_mut.result.now at) c.requires.up) in
+    let running = not_stopped c.index_mut.result.now.stopped (up_runs (base_node g.F.Fronts.log g.F.Fronts.authors) c.args.machine.now.bases.items c.args.base c.index_mut.result.now at c.requires.up) in
     record {
       given = record { domain = c.index_mut.result.now; later = c.turn_base.new.domain; queues = c.turn_base.new.queues; there = at; running = running; turn = c.in_ok-answer.ensures.turn; reply = c.in_ok-answer.ensures.reply; is = refl };
     }

@@ -9,8 +9,13 @@ use Rattle.world.specs.Held.{world_of}
 use Rattle.world.proofs.Acks.{stranger}
 use Rattle.world.proofs.reads.try_read.Goals as goal
 
-pub look-requires-clause-there : goal.look-requires-clause-there
-look-requires-clause-there g c = reader_there g.F.Fronts.log g.F.Fronts.authors (held c.args.machine.now) c.reader_of-reader.result _ c.requires.whole.placed c.reader_of-reader.ensures.there
+pub look-requires : goal.look-requires
+look-requires g c = record {
+  placed = c.requires.whole.placed;
+  session = omega (arith, c.if-session-len.false, c.len.ensures);
+  there = reader_there g.F.Fronts.log g.F.Fronts.authors (held c.args.machine.now) c.reader_of-reader.result _ c.requires.whole.placed c.reader_of-reader.ensures.there;
+  reader = c.reader_of-reader.ensures.there;
+}
 
 pub returns : goal.returns
 returns g c = record {
@@ -27,12 +32,3 @@ pub returns-in-Err : goal.returns-in-Err
 returns-in-Err g c = record {
   done = try_refused g.F.Fronts.log g.F.Fronts.authors (held c.args.machine.now) c.args.session c.args.view.now (datum_of c.args.key.now) c.in-Err.refused c.plan.result.now c.plan.ensures c.requires.whole.placed (omega (arith, c.if-session-len.false, c.len.ensures)) c.in-Err.ensures.why;
 }
-
-pub look-requires-clause-placed : goal.look-requires-clause-placed
-look-requires-clause-placed g c = c.requires.whole.placed
-
-pub look-requires-clause-session : goal.look-requires-clause-session
-look-requires-clause-session g c = omega (arith, c.if-session-len.false, c.len.ensures)
-
-pub look-requires-clause-reader : goal.look-requires-clause-reader
-look-requires-clause-reader g c = c.reader_of-reader.ensures.there

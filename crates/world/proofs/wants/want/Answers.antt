@@ -17,11 +17,11 @@ returns-in-Err g c = record {
   done = want_refused g.F.Fronts.log g.F.Fronts.authors (held c.args.machine.now) c.args.session c.args.view.now (datum_of c.args.key.now) c.in-Err.refused c.plan.result.now c.requires.whole.placed c.plan.ensures (omega (arith, c.if-session-len.false, c.len.ensures)) c.in-Err.ensures.why;
 }
 
-pub want_at-requires-clause-placed : goal.want_at-requires-clause-placed
-want_at-requires-clause-placed g c = c.requires.whole.placed
-
-pub want_at-requires-clause-there : goal.want_at-requires-clause-there
-want_at-requires-clause-there g c = reader_there g.F.Fronts.log g.F.Fronts.authors (held c.args.machine.now) c.reader_of-reader.result _ c.requires.whole.placed c.reader_of-reader.ensures.there
+pub want_at-requires : goal.want_at-requires
+want_at-requires g c = record {
+  placed = c.requires.whole.placed;
+  there = reader_there g.F.Fronts.log g.F.Fronts.authors (held c.args.machine.now) c.reader_of-reader.result _ c.requires.whole.placed c.reader_of-reader.ensures.there;
+}
 
 pub returns : goal.returns
 returns g c = record {
