@@ -4,8 +4,7 @@ ghost use Rattle.std.specs.Ordering.{is_gt};
 ghost use Rattle.std.specs.List.Sorted.{IsPartitionPoint};
 ghost use Rattle.row.specs.Cells.{row_cmp};
 ghost use Rattle.row.specs.Bags.{times, inserted, removed, IsAscending};
-ghost use Rattle.row.specs.BagChanges.{LossesFit, plus_applied, minus_applied, taken_back, with_gains, with_losses, with_records};
-ghost use Rattle.row.specs.Changes.{IsCovered};
+ghost use Rattle.row.specs.BagChanges.{plus_applied, minus_applied, taken_back, with_gains, with_losses, with_records};
 
 use crate::record::{Record, Sign};
 use crate::row::Row;
@@ -93,10 +92,10 @@ impl Bag {
     }
 
     /// Applies the records as one change: adds all rows that they add, and then takes away those
-    /// that they take away, so that their order does not matter. Errors: memory only; then the bag
-    /// is as it was. Cost: for each record, that of `add` with a copy of the row, or of `subtract`.
+    /// that they take away, so that their order does not matter. A row that is not there is not
+    /// taken away. Errors: memory only; then the bag is as it was. Cost: for each record, that of
+    /// `add` with a copy of the row, or of `subtract`.
     pub fn apply(&mut self, alloc: Global, records: &[Record]) -> Result<(), AllocError>
-        requires covered { IsCovered self.old records.now }
         ensures applied { OnOk result (self.new ≡ with_records self.old records.now) }
         ensures err { OnErr result (self.new ≡ self.old) }
     {
@@ -147,9 +146,8 @@ impl Bag {
         }
     }
 
-    // Takes away the rows that the records take away, which are there.
+    // Takes away the rows that the records take away.
     fn lose_all(&mut self, records: &[Record])
-        requires { LossesFit self.old records.now }
         ensures { self.new ≡ with_losses self.old records.now }
     {
         for signed in records {
@@ -157,14 +155,22 @@ impl Bag {
         }
     }
 
-    // Takes away the record's row, where the record takes it away.
+    // Takes away the record's row, where the record takes it away and it is there.
     fn lose(&mut self, signed: &Record)
-        requires { signed.now.sign ≡ Sign.Minus → 0 < times row_cmp signed.now.row self.old }
         ensures { self.new ≡ minus_applied signed.now.sign signed.now.row self.old }
     {
         match signed.sign {
             Sign::Plus => {}
-            Sign::Minus => self.subtract(&signed.row),
+            Sign::Minus => self.take_away(&signed.row),
+        }
+    }
+
+    // Takes away one of the row, where it is there.
+    fn take_away(&mut self, row: &Row)
+        ensures { self.new ≡ removed row_cmp row.now self.old }
+    {
+        if self.contains(row) {
+            self.subtract(row);
         }
     }
 }

@@ -1,10 +1,7 @@
 use Rattle.std.proofs.Common.{◌≡◌, true, drop}
-use Rattle.row.specs.BagChanges.{LossesFit, with_losses}
+use Rattle.row.specs.BagChanges.{with_losses}
 use Rattle.row.proofs.RecordLoops.{picked}
 use Rattle.row.proofs.bag.Bag.lose_all.Given as goal
 
 abbrev pub invariant-loop-signed : goal.invariant-loop-signed
-invariant-loop-signed l = record {
-  fit : LossesFit l.self (picked (λ _. true) (drop l.signed-index l.records));
-  same : with_losses l.self (picked (λ _. true) (drop l.signed-index l.records)) ≡ with_losses l.fn.self (picked (λ _. true) l.records);
-}
+invariant-loop-signed l = with_losses l.self (picked (λ _. true) (drop l.signed-index l.records)) ≡ with_losses l.fn.self (picked (λ _. true) l.records)
