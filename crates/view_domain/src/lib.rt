@@ -2,7 +2,7 @@
 #![tactic(auto)]
 
 mod asks;
-mod bags;
+pub mod bags;
 pub mod groups;
 pub mod keys;
 pub mod message;

@@ -1,0 +1,7 @@
+use Rattle.std.proofs.Common.{◌∙◌, ap}
+use Rattle.shown.specs.Snapshots.{rows_in}
+use Rattle.shown.proofs.Mapped.{removed_in}
+use Rattle.shown.proofs.entries.Entries.remove.Goals as goal
+
+pub returns : goal.returns
+returns c = rw (← c.self.view_is) (ap (λ m. rows_in m.entries) c.pop-gone.ensures.entries ∙ removed_in c.args.key.now c.self.inside.map.entries c.len.ensures.valid.0)

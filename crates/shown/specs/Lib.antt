@@ -1,0 +1,5 @@
+pub mod Moves
+pub mod Snapshots
+pub mod Sights
+pub mod Looks
+pub mod Boards

@@ -1,0 +1,225 @@
+//! Readers of a shown copy.
+ghost use Rattle.std.specs.Prelude.{◌≡◌, IfOk, IfErr, IfSome, None, Some};
+ghost use Rattle.left_right.specs.Sides.{view as sight_of};
+ghost use Rattle.book.specs.Sessions.{fronts};
+ghost use Rattle.row.specs.Cells.{datum_of};
+ghost use Rattle.shown.specs.Looks.{OnHit, OnMiss};
+ghost use Rattle.shown.specs.Snapshots.{Snapshot, IsLater, IsTrue, shown_at};
+ghost use Rattle.shown.specs.Sights.{IsOf, seen_or, nothing};
+
+use crate::rule::{Looks, Published, Sight};
+use crate::shown::Shown;
+use book::cut::Cut;
+use book::law::Naming;
+use core::mem::replace_with;
+use left_right::reader::Reader;
+use row::bag::Bag;
+use row::refused::Refused;
+use row::value::Value;
+use std::alloc::{AllocError, Global};
+use std::marker::Model;
+use view_domain::bags::copied;
+
+/// A reader of a shown copy, seen as what it has seen last.
+#[derive(Drop)]
+pub struct ShownReader<J: Naming> {
+    reader: Reader<Shown<J>, Sight, Published>,
+    view: usize,
+    shard: usize,
+}
+
+impl<J: Naming> Model for ShownReader<J> {
+    ghost use Rattle.std.specs.Prelude.{◌≡◌};
+    ghost use Rattle.left_right.specs.Sides.{view as sight_of};
+    ghost use Rattle.shown.specs.Snapshots.{Snapshot};
+    ghost use Rattle.shown.specs.Sights.{IsOf, seen_or, nothing};
+
+    ghost Value = { Snapshot };
+
+    ghost view = { λ r. seen_or nothing (sight_of r.reader.place) };
+
+    ghost invariant = { λ r. IsOf r.view r.shard (sight_of r.reader.place) };
+}
+
+/// What a look found: the rows of the key and the cut over which they are its answer, or that the
+/// key is not shown.
+#[derive(Drop)]
+pub enum Look<J: Naming> {
+    Hit(Bag, Cut<J>),
+    Miss,
+}
+
+impl<J: Naming> ShownReader<J> {
+    // A reader of this shard of this view that has looked once. Refused where the writer is gone,
+    // or the copy is of another shard, which no caller brings about.
+    pub(crate) fn over(
+        reader: Reader<Shown<J>, Sight, Published>,
+        view: usize,
+        shard: usize,
+    ) -> Result<ShownReader<J>, AllocError>
+        ensures view { IfOk result (λ r. r.view ≡ view) }
+        ensures shard { IfOk result (λ r. r.shard ≡ shard) }
+        ensures later { IfOk result (λ r. IfSome (sight_of reader.place) (λ s. IsLater s r)) }
+    {
+        let Ok(reading) = reader.enter_as::<Looks>() else {
+            return Err(AllocError);
+        };
+        let is_of = reading.get().view == view && reading.get().shard == shard;
+        let reader = reading.leave();
+        if !is_of {
+            return Err(AllocError);
+        }
+        Ok(ShownReader {
+            reader,
+            view,
+            shard,
+        })
+    }
+
+    /// One more reader of the same copy, which has looked once. Refused where the writer is gone,
+    /// or each place for a reader was found in use.
+    pub fn another(&self) -> Result<ShownReader<J>, AllocError>
+        ensures view { IfOk result (λ r. r.view ≡ self.now.view) }
+        ensures shard { IfOk result (λ r. r.shard ≡ self.now.shard) }
+    {
+        let reader = self.reader.factory().reader()?;
+        ShownReader::over(reader, self.view, self.shard)
+    }
+
+    /// Looks a key up in what is shown, which is true and no less than what it has seen: a hit has
+    /// the rows and the cut of one look, a miss says that the key was not shown. It waits for
+    /// nobody. Errors: `NoMemory`, also where the writer is gone; it may then have seen more. Cost:
+    /// one look-up by hash, and copies of the rows and of the cut.
+    pub fn look(&mut self, alloc: Global, key: &Value) -> Result<Look<J>, Refused>
+        ensures later { IsLater self.old self.new }
+        ensures truth { IfOk result (λ _. IsTrue J.plan self.new) }
+        ensures hit { IfOk result (OnHit (λ rows cut.
+            (shown_at self.new.rows (datum_of key.now) ≡ Some rows)
+            × (cut.lengths ≡ self.new.lengths) × (fronts J.plan cut ≡ self.new.cut))) }
+        ensures miss { IfOk result (OnMiss (shown_at self.new.rows (datum_of key.now) ≡ None)) }
+        ensures only { IfErr result (λ e. e ≡ Refused.NoMemory) }
+    {
+        let (view, shard) = (self.view, self.shard);
+        replace_with(&mut self.reader, (alloc, key), |reader, (alloc, key)| {
+            look_by(reader, alloc, key, view, shard)
+        })
+    }
+
+    /// Looks at the cut of what is shown, which is no less than what it has seen. It waits for
+    /// nobody. Errors: `NoMemory`, also where the writer is gone; it may then have seen more.
+    pub fn cut(&mut self, alloc: Global) -> Result<Cut<J>, Refused>
+        ensures later { IsLater self.old self.new }
+        ensures cut { IfOk result (λ c. (c.lengths ≡ self.new.lengths)
+            × (fronts J.plan c ≡ self.new.cut)) }
+        ensures only { IfErr result (λ e. e ≡ Refused.NoMemory) }
+    {
+        let (view, shard) = (self.view, self.shard);
+        replace_with(&mut self.reader, alloc, |reader, alloc| {
+            cut_by(reader, alloc, view, shard)
+        })
+    }
+
+    /// Looks at how many requests the view's shard had sent; the count stays at the greatest
+    /// number. It waits for nobody and takes no memory. Errors: `NoMemory` where the writer is gone.
+    pub fn asked(&mut self) -> Result<u64, Refused>
+        ensures later { IsLater self.old self.new }
+        ensures asked { IfOk result (λ n. n ≡ self.new.asked) }
+        ensures only { IfErr result (λ e. e ≡ Refused.NoMemory) }
+    {
+        let (view, shard) = (self.view, self.shard);
+        replace_with(&mut self.reader, (), |reader, ()| {
+            asked_by(reader, view, shard)
+        })
+    }
+}
+
+// The entry of the key in what is shown.
+fn look_by<J: Naming>(
+    reader: Reader<Shown<J>, Sight, Published>,
+    alloc: Global,
+    key: &Value,
+    view: usize,
+    shard: usize,
+) -> (Reader<Shown<J>, Sight, Published>, Result<Look<J>, Refused>)
+    requires of { IsOf view shard (sight_of reader.place) }
+    ensures of { IsOf view shard (sight_of result.0.place) }
+    ensures later { IsLater (seen_or nothing (sight_of reader.place))
+        (seen_or nothing (sight_of result.0.place)) }
+    ensures truth { IfOk result.1 (λ _. IsTrue J.plan (seen_or nothing (sight_of result.0.place))) }
+    ensures hit { IfOk result.1 (OnHit (λ rows cut.
+        (shown_at (seen_or nothing (sight_of result.0.place)).rows (datum_of key.now) ≡ Some rows)
+        × (cut.lengths ≡ (seen_or nothing (sight_of result.0.place)).lengths)
+        × (fronts J.plan cut ≡ (seen_or nothing (sight_of result.0.place)).cut))) }
+    ensures miss { IfOk result.1 (OnMiss (shown_at
+        (seen_or nothing (sight_of result.0.place)).rows (datum_of key.now) ≡ None)) }
+    ensures only { IfErr result.1 (λ e. e ≡ Refused.NoMemory) }
+{
+    match reader.enter_as::<Looks>() {
+        Err(reader) => (reader, Err(Refused::NoMemory)),
+        Ok(reading) => {
+            let found = found(alloc, reading.get(), key);
+            (reading.leave(), found)
+        }
+    }
+}
+
+// The cut of what is shown.
+fn cut_by<J: Naming>(
+    reader: Reader<Shown<J>, Sight, Published>,
+    alloc: Global,
+    view: usize,
+    shard: usize,
+) -> (Reader<Shown<J>, Sight, Published>, Result<Cut<J>, Refused>)
+    requires of { IsOf view shard (sight_of reader.place) }
+    ensures of { IsOf view shard (sight_of result.0.place) }
+    ensures later { IsLater (seen_or nothing (sight_of reader.place))
+        (seen_or nothing (sight_of result.0.place)) }
+    ensures cut { IfOk result.1 (λ c.
+        (c.lengths ≡ (seen_or nothing (sight_of result.0.place)).lengths)
+        × (fronts J.plan c ≡ (seen_or nothing (sight_of result.0.place)).cut)) }
+    ensures only { IfErr result.1 (λ e. e ≡ Refused.NoMemory) }
+{
+    match reader.enter_as::<Looks>() {
+        Err(reader) => (reader, Err(Refused::NoMemory)),
+        Ok(reading) => {
+            let cut = reading.get().cut().try_clone(alloc);
+            (reading.leave(), cut.map_err(|_| Refused::NoMemory))
+        }
+    }
+}
+
+// How many requests the view's shard had sent.
+fn asked_by<J: Naming>(
+    reader: Reader<Shown<J>, Sight, Published>,
+    view: usize,
+    shard: usize,
+) -> (Reader<Shown<J>, Sight, Published>, Result<u64, Refused>)
+    requires of { IsOf view shard (sight_of reader.place) }
+    ensures of { IsOf view shard (sight_of result.0.place) }
+    ensures later { IsLater (seen_or nothing (sight_of reader.place))
+        (seen_or nothing (sight_of result.0.place)) }
+    ensures asked { IfOk result.1 (λ n. n ≡ (seen_or nothing (sight_of result.0.place)).asked) }
+    ensures only { IfErr result.1 (λ e. e ≡ Refused.NoMemory) }
+{
+    match reader.enter_as::<Looks>() {
+        Err(reader) => (reader, Err(Refused::NoMemory)),
+        Ok(reading) => {
+            let asked = reading.get().asked();
+            (reading.leave(), Ok(asked))
+        }
+    }
+}
+
+// A copy of the key's entry and of the cut.
+fn found<J: Naming>(alloc: Global, shown: &Shown<J>, key: &Value) -> Result<Look<J>, Refused>
+    ensures hit { IfOk result (OnHit (λ rows cut.
+        (shown_at shown.now.rows (datum_of key.now) ≡ Some rows)
+        × (cut.lengths ≡ shown.now.lengths) × (fronts J.plan cut ≡ shown.now.cut))) }
+    ensures miss { IfOk result (OnMiss (shown_at shown.now.rows (datum_of key.now) ≡ None)) }
+    ensures only { IfErr result (λ e. e ≡ Refused.NoMemory) }
+{
+    let Some(rows) = shown.entry(key) else {
+        return Ok(Look::Miss);
+    };
+    Ok(Look::Hit(copied(alloc, rows)?, shown.cut().try_clone(alloc)?))
+}
