@@ -3,4 +3,4 @@
 
 pub mod base_domain;
 pub mod message;
-pub mod packet;
+pub mod told;

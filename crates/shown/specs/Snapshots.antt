@@ -87,7 +87,7 @@ after s d = record s {
 
 -- each shown key of the shard has the view's rows over the cut
 pub record IsTrue (p : Layout) (s : Snapshot) : Type 0 where
-  pub rows : (k : Datum) → view_shard p s.view k ≡ s.shard → IfSome (shown_at s.rows k) (λ rs. rs ≡ answer p s.cut s.view k)
+  pub rows : (k : Value) → view_shard p s.view (datum_of k) ≡ s.shard → IfSome (shown_at s.rows (datum_of k)) (λ rs. rs ≡ answer p s.cut s.view (datum_of k))
 
 -- the same shard of the same view, over no smaller cut
 pub record IsLater (s t : Snapshot) : Type 0 where

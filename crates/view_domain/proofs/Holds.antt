@@ -1,5 +1,5 @@
 -- What a view domain holds stays true, and what it does is what the step says.
-use Rattle.std.proofs.Common.{IfSome, ◌≡◌, ◌≢◌, ℕ, zero, suc, ◌+◌, Bool, true, false, cond, List, [], ◌∷◌, map, replicate, length, Option, None, refl, ap, sym, ◌∙◌, arith, true≢false}
+use Rattle.std.proofs.Common.{IfSome, ◌≡◌, ◌≢◌, ℕ, zero, suc, ◌+◌, Bool, true, false, cond, List, [], ◌∷◌, map, replicate, length, Option, Some, None, refl, ap, sym, ◌∙◌, subst, arith, true≢false}
 use Rattle.std.specs.List.{range_with_len}
 use Rattle.std.proofs.lemmas.List.{length-map}
 use Rattle.row.specs.Bags.{sorted, joined}
@@ -26,7 +26,7 @@ use Rattle.protocol.specs.Views.{want, order}
 use Rattle.protocol.specs.ViewSteps.{quiet, begins, counted}
 use Rattle.view_domain.specs.Domains.{Domain, HoldsTruth, lines_of, view_of}
 use Rattle.view_domain.specs.Outboxes.{OutboxView, ShownView, IsClear}
-use Rattle.view_domain.specs.Received.{IsShown, IsDone}
+use Rattle.view_domain.specs.Received.{GoesOn, IsDone, IsNextLine, IsShown}
 use Rattle.view_domain.specs.declared.shown.KeyChange.{KeyChange}
 use Rattle.view_domain.specs.Shown.{rows_at, LeadsTo}
 use Rattle.packet.specs.Readers.{tag_of}
@@ -71,6 +71,14 @@ each_alike : {X : Type 0} (a : X) (n b : ℕ) → map (λ r. r ∷ []) (replicat
 each_alike a zero b = refl
 each_alike a (suc n) b = ap (λ l. (a ∷ []) ∷ l) (each_alike a n (b + 1))
 
+-- ---- what is told
+pub goes_on : (d : Domain) (s : ℕ) (o : Option ShownView) (line : Option (List LogView)) (keys : List KeyChange) (asked : ℕ) → IfSome o (λ x. x ≡ record { stage = s; line = line; keys = keys; asked = asked }) → IfSome line (IsNextLine d s) → IfSome o (GoesOn d)
+goes_on d s None line keys asked is next = tt
+goes_on d s (Some x) line keys asked is next = subst (GoesOn d) (sym is) next
+
+pub same_line : {X : Type 0} (x y : X) → Some x ≡ Some y → x ≡ y
+same_line x y e = cc
+
 -- ---- an order, and a want
 pub open_done : (d : Domain) (k : Datum) (new : Store) (out : OutboxView) (s : Option ShownView) → d.mode ≡ mode.Running → stands_of new ≡ open_at k (stands_of d.kept) → IsClear out → length out.requests ≡ d.plan.stages → IsShown d s (record d { kept = new })
     → IsDone (order k) (quiet (view_of d) (open_at k (stands_of d.kept))) d (record out { shown = s }) (record d { kept = new })
@@ -94,7 +102,7 @@ idle_done d k new out false h e running stands clear count leads = record {
   view = λ i. record (view_of d) { keys = stands i };
   requests = silent_edges out.requests d.plan.stages count clear.requests;
   acks = rw clear.ack refl;
-  shown = rw clear.shown (record { keys = leads; cut = refl; of = tt; asked = refl });
+  shown = rw clear.shown (record { keys = leads; cut = refl; line = tt; of = tt; asked = refl });
   running = running;
 }
 

@@ -36,10 +36,11 @@ use Rattle.protocol.specs.ViewSteps.{again, ask, capped, counted, drop_all, give
 use Rattle.packet.specs.Truth.{Pointwise, Grows, Given, IsTrueStage, IsStagePiece, IsStillStage, IsTold, changes_at, key_of_piece, sent_of, view_shares}
 use Rattle.view_domain.specs.Codes.{GoesWith, IsFrom}
 use Rattle.view_domain.specs.Domains.{Domain, HoldsTruth, lines_of, view_of}
+use Rattle.view_domain.proofs.Holds.{goes_on, same_line}
 use Rattle.view_domain.specs.Outboxes.{OutboxView, ShownView, new_line, put_line, keys_told, line_told, cut_after, asked_after}
 use Rattle.view_domain.specs.Shown.{rows_at, LeadsTo}
 use Rattle.view_domain.specs.declared.shown.KeyChange.{KeyChange}
-use Rattle.view_domain.specs.Received.{IsDone, IsShown}
+use Rattle.view_domain.specs.Received.{IsDone, IsNextLine, IsShown}
 use Rattle.view_domain.specs.Groups.{named_in}
 use Rattle.view_domain.specs.Taken.{IsStepOf, IsPieceFor, asks_by}
 use Rattle.view_domain.proofs.AskSteps.{still_waiting}
@@ -193,11 +194,11 @@ module _ (d : Domain) (s : ℕ) (x : StagePacketView) (is_plan : x.plan ≡ d.pl
     of = each_set (AreOf d.plan) d.cut s to (rw (← is_plan) of) holds.of;
   }
 
-  -- a line that is told has a front of each source
-  told_of_plan : (to : List LogView) (piece : Option Piece) (marker : Option Marker) → AreOf d.plan to → IfSome (new_line piece marker to) (AreOf d.plan)
-  told_of_plan to None None of = of
-  told_of_plan to None (Some m) of = tt
-  told_of_plan to (Some piece) m of = tt
+  -- what holds of the line, holds of it where it is told
+  where_told : (P : List LogView → Type 0) (to : List LogView) (piece : Option Piece) (marker : Option Marker) → P to → IfSome (new_line piece marker to) P
+  where_told P to None None of = of
+  where_told P to None (Some m) of = tt
+  where_told P to (Some piece) m of = tt
 
   -- the line that is told leads there
   pub told_leads : (to : List LogView) (piece : Option Piece) (marker : Option Marker) → x.to ≡ entries_of to → Given piece (IsStillStage x) → Given (mark_in marker) (IsStillStage x) → lines_of (slice_set d.cut s to) ≡ put_line s (new_line piece marker to) (lines_of d.cut)
@@ -226,13 +227,14 @@ module _ (d : Domain) (s : ℕ) (x : StagePacketView) (is_plan : x.plan ≡ d.pl
       }
 
   -- what is told of it leads there
-  pub packet_shown : (new : Store) (to : List LogView) (asked : ℕ) (marks : MarksView) (told : List KeyChange) (line : Option (List LogView)) (piece : Option Piece) (marker : Option Marker) (shown put : Option ShownView) → put ≡ shown → x.to ≡ entries_of to → AreOf x.plan to → x.piece ≡ piece
+  pub packet_shown : (new : Store) (to : List LogView) (asked : ℕ) (marks : MarksView) (told : List KeyChange) (line : Option (List LogView)) (piece : Option Piece) (marker : Option Marker) (shown put : Option ShownView) → put ≡ shown → s < d.plan.stages → IfSome shown (λ y. y ≡ record { stage = s; line = line; keys = told; asked = asked }) → x.to ≡ entries_of to → AreOf x.plan to → x.piece ≡ piece
       → x.marker ≡ mark_in marker → keys_told shown ≡ told → LeadsTo (rows_at d.kept) told new → line_told shown ≡ line → ((cut : List Line) → cut_after shown cut ≡ put_line s line cut) → line ≡ new_line piece marker to → asked_after shown d.asked ≡ asked
       → IsShown d put (record d { cut = slice_set d.cut s to; kept = new; asked = asked; marks = marks })
-  packet_shown new to asked marks told line piece marker shown put is is_to of is_piece is_marker keys leads tells cut is_line count = rw is (record {
+  packet_shown new to asked marks told line piece marker shown put is place parts is_to of is_piece is_marker keys leads tells cut is_line count = rw is (record {
     keys = rw keys leads;
     cut = told_leads to piece marker is_to (subst (λ o. Given o (IsStillStage x)) is_piece is_true.alone) (subst (λ o. Given o (IsStillStage x)) is_marker is_true.marker) ∙ (ap (λ l. put_line s l (lines_of d.cut)) (sym is_line) ∙ sym (cut (lines_of d.cut)));
-    of = rw (tells, is_line) (told_of_plan to piece marker (rw (← is_plan) of));
+    line = goes_on _ _ shown line _ _ parts (rw is_line (where_told (IsNextLine d s) to piece marker (record { place = place; grows = λ held at. rw (same_line _ _ (sym at ∙ next), ← is_to) is_true.grows })));
+    of = rw (tells, is_line) (where_told (AreOf d.plan) to piece marker (rw (← is_plan) of));
     asked = sym count;
   })
 

@@ -1,5 +1,5 @@
 //! What a view shard tells its shown copy.
-ghost use Rattle.std.specs.Prelude.{◌≡◌, List};
+ghost use Rattle.std.specs.Prelude.{◌≡◌, IfSome, List};
 ghost use Rattle.std.specs.Option.{option_map};
 ghost use Rattle.model.specs.Queries.{Line as LineView};
 ghost use Rattle.view_domain.specs.Outboxes.{asked_after, cut_after, keys_told, line_told, put_line};
@@ -54,6 +54,12 @@ impl<F: Fronts> ShownChange<F> {
         was: u64,
         asked: u64,
     ) -> Option<ShownChange<F>>
+        ensures parts { IfSome result (λ s. s ≡ record {
+          stage = stage;
+          line = line;
+          keys = keys.items;
+          asked = asked;
+        }) }
         ensures keys { keys_told result ≡ keys.items }
         ensures line { line_told result ≡ line }
         ensures cut { (cut : List LineView) → cut_after result cut ≡ put_line stage line cut }
@@ -68,6 +74,13 @@ impl<F: Fronts> ShownChange<F> {
             keys,
             asked,
         })
+    }
+
+    /// What becomes of keys, in order.
+    pub fn keys(&self) -> &[KeyChange]
+        ensures { result.now ≡ self.now.keys }
+    {
+        &self.keys
     }
 
     /// The stage shard and its new line, what becomes of keys, and the count of requests, moved out

@@ -12,7 +12,7 @@ ghost use Rattle.protocol.specs.ViewSteps.{step};
 ghost use Rattle.view_domain.specs.Codes.{message_of, IsFrom, Meets};
 ghost use Rattle.view_domain.specs.Domains.{lines_of, view_of, stopped};
 ghost use Rattle.view_domain.specs.Outboxes.{IsClear};
-ghost use Rattle.view_domain.specs.Received.{Fails, IsDone, IsReady};
+ghost use Rattle.view_domain.specs.Received.{AreAnswers, Fails, IsDone, IsReady};
 ghost use Rattle.view_domain.specs.Shown.{rows_at};
 
 use crate::asks::{Asks, begin_key, count, prepare};
@@ -153,6 +153,14 @@ impl<'p, F: Fronts> ViewDomain<'p, F> {
         ensures { result ≡ self.now.asked }
     {
         self.asked
+    }
+
+    /// Tells what it holds by its type: unless it is broken, each filled key of its shard has the
+    /// view's rows over its cut. It does nothing.
+    pub fn is_true(&self)
+        ensures { self.now.mode ≢ Mode.Broken → AreAnswers self.now }
+    {
+        let _cut = &self.cut;
     }
 
     /// Makes a filled key a hole. `NoMemory` breaks the domain.

@@ -1,7 +1,7 @@
 use Rattle.std.proofs.Common.{◌∙◌, sym, ap, is_some}
 use Rattle.row.specs.Cells.{datum_of}
 use Rattle.view_domain.specs.Domains.{lines_of}
-use Rattle.view_domain.proofs.Holds.{kept_holds, want_idle, want_made, sound}
+use Rattle.view_domain.proofs.Holds.{goes_on, kept_holds, want_idle, want_made, sound}
 use Rattle.view_domain.proofs.view_domain.ViewDomain.begin.Goals as goal
 
 pub invariant_of-self-in_default-begun : goal.invariant_of-self-in_default-begun
@@ -23,6 +23,7 @@ returns-clause-done g c =
     c.in-Ok-put_to_each.ensures.requests (c.in-Ok-put_to_each.ensures.ack ∙ c.requires.ready.clear.ack) (rw c.in-Ok-put_to_each.ensures.shown (record {
       keys = rw (c.of-shown.ensures.keys, c.new.ensures.items) c.in-Ok.ensures.shown;
       cut = sym (c.of-shown.ensures.cut (lines_of c.self.inside.cut.items));
+      line = goes_on _ 0 c.of-shown.result _ _ _ c.of-shown.ensures.parts tt;
       of = rw c.of-shown.ensures.line tt;
       asked = sym c.of-shown.ensures.asked;
     })))

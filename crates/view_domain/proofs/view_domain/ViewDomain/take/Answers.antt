@@ -75,4 +75,4 @@ returns-clause-done g c =
     running refl c.self.invariant.0 (c.cap.ensures ∙ ap (λ (v : ViewLayout). v.cap) c.view.ensures) c.in-Ok.ensures.stands (c.len.ensures ∙ c.in-Ok.made.requests.ok.0) c.count-self-inside.ensures c.in-Ok.ensures.requests
     (c.put.ensures.requests ∙ ap (λ n. to_one n c.args.stage c.in-Ok.made.requests.items) edges) c.in-Ok.ensures.marks (ack ∙ c.in-Ok.ensures.ack)
     (packet_shown _ c.args.stage _ t.plan t.stage t.view t.shard t.holds t.truth t.next c.prepare.new.kept c.into_parts-from.result.1 c.count-self-inside.result c.prepare.new.marks c.in-Ok.made.told.items c.in-Ok.made.line c.into_parts-from.result.2.piece c.into_parts-from.result.2.marker
-    c.of-shown.result c.put.new.self.shown shown refl (subst (λ (y : StagePacketView). AreOf y.plan c.into_parts-from.result.1) c.into_parts-from.ensures.parts c.into_parts-from.ensures.of) refl refl c.of-shown.ensures.keys c.in-Ok.ensures.shown c.of-shown.ensures.line c.of-shown.ensures.cut c.in-Ok.ensures.line c.of-shown.ensures.asked)))
+    c.of-shown.result c.put.new.self.shown shown (rw (← c.self.view_is) at c.requires.from).place c.of-shown.ensures.parts refl (subst (λ (y : StagePacketView). AreOf y.plan c.into_parts-from.result.1) c.into_parts-from.ensures.parts c.into_parts-from.ensures.of) refl refl c.of-shown.ensures.keys c.in-Ok.ensures.shown c.of-shown.ensures.line c.of-shown.ensures.cut c.in-Ok.ensures.line c.of-shown.ensures.asked)))
