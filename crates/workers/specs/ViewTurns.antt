@@ -1,0 +1,35 @@
+-- What becomes of one message to a view shard.
+use Rattle.std.specs.Prelude.{◌≡◌}
+use Rattle.row.specs.Cells.{datum_of}
+use Rattle.row.specs.declared.value.Value.{Value}
+use Rattle.model.specs.Fronts.{LogView}
+use Rattle.packet.specs.Codes.{marks_in}
+use Rattle.packet.specs.Outboxes.{packets_on}
+use Rattle.packet.specs.declared.mode.Mode.TheVariants.{Running}
+use Rattle.protocol.specs.Views.{ToView}
+use Rattle.protocol.specs.ViewSteps.{step}
+use Rattle.protocol.specs.WorldSteps.{lengths_of}
+use Rattle.shown.specs.Snapshots.{Snapshot, shown_at}
+use Rattle.view_domain.specs.Domains.{Domain, lines_of, view_of}
+use Rattle.view_domain.specs.Outboxes.{OutboxView}
+use Rattle.view_domain.specs.Shown.{rows_at}
+
+-- two fronts are of one log
+abbrev pub are_one : LogView → LogView → Type 0
+are_one a b = (a.plan ≡ b.plan) × (a.base ≡ b.base)
+
+-- the copy shows what the domain holds: the filled keys with their rows, its cut, and how many requests it has sent
+pub record Shows (d : Domain) (s : Snapshot) : Type 0 where
+  pub view : s.view ≡ d.view
+  pub shard : s.shard ≡ d.shard
+  pub lengths : s.lengths ≡ lengths_of (lines_of d.cut)
+  pub cut : s.cut ≡ lines_of d.cut
+  pub rows : (k : Value) → shown_at s.rows (datum_of k) ≡ rows_at d.kept k
+  pub asked : s.asked ≡ d.asked
+
+-- the domain did the protocol's step, and what that puts out is in the outbox
+pub record IsTaken (m : ToView) (old : Domain) (out : OutboxView) (new : Domain) : Type 0 where
+  pub view : view_of new ≡ (step (view_of old) m).view
+  pub requests : packets_on out.requests ≡ (step (view_of old) m).requests
+  pub acks : marks_in out.ack ≡ (step (view_of old) m).acks
+  pub running : new.mode ≡ Running

@@ -1,0 +1,58 @@
+//! The turns of a view shard.
+ghost use Rattle.std.specs.Prelude.{◌≡◌, ◌≢◌, [], length, OnOk, OnErr};
+ghost use Rattle.packet.specs.declared.mode.Mode.TheVariants.{Running};
+ghost use Rattle.shown.specs.Boards.{pending, shown};
+ghost use Rattle.view_domain.specs.Codes.{message_of, Meets};
+ghost use Rattle.view_domain.specs.Outboxes.{IsClear};
+ghost use Rattle.workers.specs.ViewTurns.{are_one, IsTaken, Shows};
+
+use book::front::Front;
+use book::law::Naming;
+use row::refused::Refused;
+use shown::writer::ShownWriter;
+use std::alloc::Global;
+use std::sync::Wait;
+use view_domain::message::ToView;
+use view_domain::outbox::ViewOutbox;
+use view_domain::view_domain::ViewDomain;
+
+/// A view shard takes one message into a clear outbox, and its shown copy is made to show what it
+/// then holds.
+///
+/// With `Ok` the domain did the step of the protocol, its requests and its acknowledgement are in the
+/// outbox, and the copy shows just the keys that it holds filled, with their rows, over its cut.
+/// Errors: those of `ViewDomain::receive`, and `NoMemory` where the copy was refused memory; then
+/// the domain has stopped, the copy shows what it showed, and what is in the outbox is not to be
+/// sent. Cost: that of the message and of its change of the copy, which waits for readers that still
+/// look at the copy behind.
+pub fn take_view<J: Naming, R: Wait + Drop>(
+    alloc: Global,
+    domain: &mut ViewDomain<Front<J>>,
+    writer: &mut ShownWriter<J, R>,
+    message: ToView<Front<J>>,
+    out: &mut ViewOutbox<Front<J>>,
+) -> Result<(), Refused>
+    requires plan { domain.old.plan ≡ J.plan }
+    requires clear { IsClear out.old }
+    requires edges { length out.old.requests ≡ J.plan.stages }
+    requires meets { Meets are_one domain.old message }
+    requires shows { Shows domain.old (shown writer.old) }
+    requires idle { pending writer.old ≡ [] }
+    ensures done { OnOk result (IsTaken (message_of message) domain.old out.new domain.new) }
+    ensures shows { OnOk result (Shows domain.new (shown writer.new)) }
+    ensures idle { OnOk result (pending writer.new ≡ []) }
+    ensures stays { OnErr result (shown writer.new ≡ shown writer.old) }
+    ensures stopped { OnErr result (domain.new.mode ≢ Running) }
+    ensures edges { length out.new.requests ≡ J.plan.stages }
+{
+    domain.receive(alloc, message, out)?;
+    domain.is_true();
+    let Some(change) = out.take_shown() else {
+        return Ok(());
+    };
+    let Ok(()) = writer.show(alloc, change) else {
+        domain.stop();
+        return Err(Refused::NoMemory);
+    };
+    Ok(())
+}
