@@ -119,7 +119,9 @@ impl<T: Drop> Inbox<T> {
     {
         let mut line = self.line.lock(rt);
         let put = line.put(edge, message);
-        self.ready.store(!line.is_idle(), Ordering::SeqCst);
+        if matches!(put, Ok(true)) {
+            self.ready.store(true, Ordering::SeqCst);
+        }
         put
     }
 

@@ -1,5 +1,5 @@
 //! What stands behind the lock of an inbox.
-ghost use Rattle.std.specs.Prelude.{◌≡◌, ◌⊎◌, ◌<◌, ◌&&◌, [], length, not, true, false, replicate, IfOk, IfErr, OnOk, OnErr, IsErr};
+ghost use Rattle.std.specs.Prelude.{◌≡◌, ◌⊎◌, ◌<◌, ◌&&◌, [], length, not, true, false, replicate, IfOk, IfErr, IsErrAnd, OnOk, OnErr};
 ghost use Rattle.links.specs.Queued.{LineView, holds_any, put_on};
 
 use crate::inbox::{Taking, Unsent};
@@ -54,8 +54,7 @@ impl<T: Drop> Line<T> {
         ensures first { IfOk result (λ f. f ≡ not (holds_any self.old.queues)) }
         ensures refused { OnErr result (self.new ≡ self.old) }
         ensures back { IfErr result (λ u. u.message ≡ message) }
-        ensures closed { self.old.closed ≡ true → IsErr result }
-        ensures stopped { self.old.closed ≡ true → IfErr result (λ u. u.refused ≡ Refused.Stopped) }
+        ensures closed { self.old.closed ≡ true → IsErrAnd result (λ u. u.refused ≡ Refused.Stopped) }
         ensures memory { self.old.closed ≡ false → edge < length self.old.queues → IfErr result (λ u. u.refused ≡ Refused.NoMemory) }
         ensures only { IfErr result (λ u. (u.refused ≡ Refused.NoMemory) ⊎ (u.refused ≡ Refused.Stopped)) }
     {

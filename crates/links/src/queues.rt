@@ -6,63 +6,12 @@ use std::alloc::{AllocError, AllocFailed, Global};
 use std::collections::VecDeque;
 use std::marker::Model;
 
-/// What came on one edge and waits, in order.
-#[derive(Drop)]
-struct Waiting<T: Drop> {
-    messages: VecDeque<T>,
-}
-
-impl<T: Drop> Model for Waiting<T> {
-    ghost use Rattle.std.specs.Prelude.{List};
-
-    ghost Value = { List T };
-
-    ghost view = { λ w. w.messages.items };
-}
-
-impl<T: Drop> Waiting<T> {
-    fn pop(&mut self) -> Option<T>
-        ensures first { result ≡ slice_get self.old 0 }
-        ensures rest { self.new ≡ drop 1 self.old }
-    {
-        self.messages.pop_front()
-    }
-
-    fn put(&mut self, message: T) -> Result<(), AllocFailed<T>>
-        ensures last { self.new ≡ (if is_ok result then self.old ++ message ∷ [] else self.old) }
-        ensures back { IfErr result (λ f. f.value ≡ message) }
-    {
-        self.messages.push_back(message)
-    }
-
-    fn len(&self) -> usize
-        ensures { result ≡ length self.now }
-    {
-        self.messages.len()
-    }
-
-    fn none(alloc: Global) -> Waiting<T>
-        ensures { result ≡ [] }
-    {
-        let messages = VecDeque::new(alloc);
-        Waiting { messages }
-    }
-}
-
 /// Queues of messages, one for each edge. A contract sees a list of lists. Room that a queue has
 /// once taken it keeps, so that queues which are filled and emptied in turn soon take no more
 /// memory.
 #[derive(Drop)]
 pub struct Queues<T: Drop> {
     waiting: Vec<Waiting<T>>,
-}
-
-impl<T: Drop> Model for Queues<T> {
-    ghost use Rattle.std.specs.Prelude.{List};
-
-    ghost Value = { List (List T) };
-
-    ghost view = { λ q. q.waiting.items };
 }
 
 impl<T: Drop> Queues<T> {
@@ -130,4 +79,55 @@ impl<T: Drop> Queues<T> {
     {
         self.waiting[edge].put(message)
     }
+}
+
+impl<T: Drop> Model for Queues<T> {
+    ghost use Rattle.std.specs.Prelude.{List};
+
+    ghost Value = { List (List T) };
+
+    ghost view = { λ q. q.waiting.items };
+}
+
+/// What came on one edge and waits, in order.
+#[derive(Drop)]
+struct Waiting<T: Drop> {
+    messages: VecDeque<T>,
+}
+
+impl<T: Drop> Waiting<T> {
+    fn pop(&mut self) -> Option<T>
+        ensures first { result ≡ slice_get self.old 0 }
+        ensures rest { self.new ≡ drop 1 self.old }
+    {
+        self.messages.pop_front()
+    }
+
+    fn put(&mut self, message: T) -> Result<(), AllocFailed<T>>
+        ensures last { self.new ≡ (if is_ok result then self.old ++ message ∷ [] else self.old) }
+        ensures back { IfErr result (λ f. f.value ≡ message) }
+    {
+        self.messages.push_back(message)
+    }
+
+    fn len(&self) -> usize
+        ensures { result ≡ length self.now }
+    {
+        self.messages.len()
+    }
+
+    fn none(alloc: Global) -> Waiting<T>
+        ensures { result ≡ [] }
+    {
+        let messages = VecDeque::new(alloc);
+        Waiting { messages }
+    }
+}
+
+impl<T: Drop> Model for Waiting<T> {
+    ghost use Rattle.std.specs.Prelude.{List};
+
+    ghost Value = { List T };
+
+    ghost view = { λ w. w.messages.items };
 }
