@@ -1,0 +1,14 @@
+//! Tests of `links`: that calls which take memory succeed, what a refused one leaves, and what
+//! threads find of each other, of which no contract speaks.
+#![tactic(auto)]
+
+#[cfg(test)]
+mod bells;
+#[cfg(test)]
+mod inboxes;
+#[cfg(test)]
+mod mailboxes;
+#[cfg(test)]
+mod queues;
+#[cfg(test)]
+mod threads;
