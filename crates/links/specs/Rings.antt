@@ -1,5 +1,5 @@
 -- What a bell has rung for.
-use Rattle.std.specs.Prelude.{ℕ, Bool, true, false, max, leb, Option, None, Some}
+use Rattle.std.specs.Prelude.{ℕ, Bool, false, max, leb, Option, None, Some}
 
 -- the latest call that was rung for, and whether an alarm was not yet told
 pub record BellView : Type 0 where

@@ -67,7 +67,9 @@ impl Heard {
 }
 
 /// The bell of one session. Who has what the session waits for rings it with the number of the
-/// session's call, so that a ring that comes late wakes no later call. It takes no memory.
+/// session's call, so that a ring that comes late wakes no later call: an event count, whose counts
+/// are the session's calls. Each call on it costs one lock, and takes no memory. That a ring comes no
+/// contract says.
 #[derive(Drop)]
 pub struct Bell {
     heard: Mutex<Heard>,

@@ -161,6 +161,7 @@ impl<T: Drop> Inbox<T> {
     }
 
     /// Closes the inbox: what is in it can be taken, each later put is refused, and the taker wakes.
+    /// It cannot be opened again. Cost: one lock.
     pub fn close<R: Wait>(&self, rt: &R) {
         self.shut(rt);
         self.moved.notify_all();

@@ -5,8 +5,9 @@ use std::alloc::{AllocError, Global};
 use std::marker::Model;
 use std::sync::atomic::{AtomicBool, Ordering};
 
-/// A flag for each domain, which goes up as the domain stops, and never down: no call lowers it. A
-/// contract sees how many domains there are.
+/// A flag for each domain, which goes up as the domain stops, and never down: no call lowers it.
+/// Anybody looks, with no lock. A contract sees how many domains there are, and not which have
+/// stopped, since other threads mark them.
 #[derive(Drop)]
 pub struct Stops {
     flags: Vec<AtomicBool>,
@@ -21,7 +22,8 @@ impl Model for Stops {
 }
 
 impl Stops {
-    /// Flags of so many domains, none of which has stopped. Errors: memory only.
+    /// Flags of so many domains, none of which has stopped. Errors: memory only. Cost: linear in
+    /// the domains.
     pub fn new(alloc: Global, domains: usize) -> Result<Stops, AllocError>
         ensures { IfOk result (λ s. s ≡ domains) }
     {
@@ -48,6 +50,7 @@ impl Stops {
     }
 
     /// Whether a domain has been marked; what is no domain never is. Once it was, it is ever after.
+    /// Constant time; it neither waits nor takes memory.
     pub fn has(&self, domain: usize) -> bool
         ensures unknown { self.now ≤ domain → result ≡ false }
     {

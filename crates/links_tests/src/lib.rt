@@ -3,12 +3,8 @@
 #![tactic(auto)]
 
 #[cfg(test)]
-mod bells;
-#[cfg(test)]
 mod inboxes;
 #[cfg(test)]
-mod mailboxes;
-#[cfg(test)]
-mod queues;
+mod sessions;
 #[cfg(test)]
 mod threads;
