@@ -1,0 +1,133 @@
+//! Messages by the edge on which they came.
+ghost use Rattle.std.specs.Prelude.{◌≡◌, ◌<◌, ◌∷◌, ◌++◌, [], length, drop, not, replicate, slice_get, slice_index_or, slice_set, is_ok, if◌then◌else◌, IfOk, IfErr, OnOk, OnErr};
+ghost use Rattle.links.specs.Queued.{holds_any, put_on};
+
+use std::alloc::{AllocError, AllocFailed, Global};
+use std::collections::VecDeque;
+use std::marker::Model;
+
+/// Queues of messages, one for each edge. A contract sees a list of lists. Room that a queue has
+/// once taken it keeps, so that queues which are filled and emptied in turn soon take no more
+/// memory.
+#[derive(Drop)]
+pub struct Queues<T: Drop> {
+    waiting: Vec<Waiting<T>>,
+}
+
+impl<T: Drop> Queues<T> {
+    /// Empty queues of so many edges. Errors: memory only. Cost: linear in the edges.
+    pub fn new(alloc: Global, edges: usize) -> Result<Queues<T>, AllocError>
+        ensures { IfOk result (λ q. q ≡ replicate edges []) }
+    {
+        let mut waiting = Vec::with_capacity(alloc, edges)?;
+        for _ in 0..edges {
+            let none = Waiting::none(alloc);
+            waiting.push(none)?;
+        }
+        Ok(Queues { waiting })
+    }
+
+    /// How many edges there are.
+    pub fn edges(&self) -> usize
+        ensures { result ≡ length self.now }
+    {
+        self.waiting.len()
+    }
+
+    /// How many messages wait on an edge; none on one that is not there.
+    pub fn len(&self, edge: usize) -> usize
+        ensures { result ≡ length (slice_index_or self.now edge []) }
+    {
+        match self.waiting.get(edge) {
+            Some(waiting) => waiting.len(),
+            None => 0,
+        }
+    }
+
+    /// Whether no edge has a message. Cost: linear in the edges.
+    pub fn is_empty(&self) -> bool
+        ensures { result ≡ not (holds_any self.now) }
+    {
+        for edge in 0..self.waiting.len() {
+            if self.waiting[edge].len() > 0 {
+                return false;
+            }
+        }
+        true
+    }
+
+    /// The first message of an edge, taken off; `None` where none waits, or there is no such edge.
+    /// Takes no memory. Constant time.
+    pub fn pop(&mut self, edge: usize) -> Option<T>
+        ensures first { result ≡ slice_get (slice_index_or self.old edge []) 0 }
+        ensures rest { self.new ≡ slice_set self.old edge (drop 1 (slice_index_or self.old edge [])) }
+    {
+        if edge < self.waiting.len() {
+            self.waiting[edge].pop()
+        } else {
+            None
+        }
+    }
+
+    /// Puts a message last on an edge. Refused for want of memory: then the queues stay, and the
+    /// message is handed back. Cost: constant, spread over many.
+    pub fn put(&mut self, edge: usize, message: T) -> Result<(), AllocFailed<T>>
+        requires edge { edge < length self.old }
+        ensures last { OnOk result (self.new ≡ put_on self.old edge message) }
+        ensures refused { OnErr result (self.new ≡ self.old) }
+        ensures back { IfErr result (λ f. f.value ≡ message) }
+    {
+        self.waiting[edge].put(message)
+    }
+}
+
+impl<T: Drop> Model for Queues<T> {
+    ghost use Rattle.std.specs.Prelude.{List};
+
+    ghost Value = { List (List T) };
+
+    ghost view = { λ q. q.waiting.items };
+}
+
+/// What came on one edge and waits, in order.
+#[derive(Drop)]
+struct Waiting<T: Drop> {
+    messages: VecDeque<T>,
+}
+
+impl<T: Drop> Waiting<T> {
+    fn pop(&mut self) -> Option<T>
+        ensures first { result ≡ slice_get self.old 0 }
+        ensures rest { self.new ≡ drop 1 self.old }
+    {
+        self.messages.pop_front()
+    }
+
+    fn put(&mut self, message: T) -> Result<(), AllocFailed<T>>
+        ensures last { self.new ≡ (if is_ok result then self.old ++ message ∷ [] else self.old) }
+        ensures back { IfErr result (λ f. f.value ≡ message) }
+    {
+        self.messages.push_back(message)
+    }
+
+    fn len(&self) -> usize
+        ensures { result ≡ length self.now }
+    {
+        self.messages.len()
+    }
+
+    fn none(alloc: Global) -> Waiting<T>
+        ensures { result ≡ [] }
+    {
+        let messages = VecDeque::new(alloc);
+        Waiting { messages }
+    }
+}
+
+impl<T: Drop> Model for Waiting<T> {
+    ghost use Rattle.std.specs.Prelude.{List};
+
+    ghost Value = { List T };
+
+    ghost view = { λ w. w.messages.items };
+}
