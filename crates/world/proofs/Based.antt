@@ -12,10 +12,10 @@ use Rattle.protocol.specs.WorldSteps.{base_did, marked, base_takes, is_up}
 use Rattle.protocol.proofs.Lists.{map_set, map_get, map_same}
 use Rattle.base_domain.specs.Domains.{Domain as BaseDomain}
 use Rattle.base_domain.specs.Received.{base_at}
-use Rattle.world.specs.Held.{Held, Are, IsPlaced, IsBaseOf, KnowsOwn, world_of, base_node}
+use Rattle.machine.specs.Held.{Held, Are, IsPlaced, IsBaseOf, KnowsOwn, world_of, base_node}
 use Rattle.world.specs.Rounds.{IsAt}
-use Rattle.world.specs.Turned.{IsBaseGiven, IsBaseTurn}
-use Rattle.world.proofs.Steps.{set_are}
+use Rattle.machine.specs.Turned.{IsBaseGiven, IsBaseTurn}
+use Rattle.machine.proofs.Steps.{set_are}
 use Rattle.world.proofs.Rounded.{base_plan, drop_end}
 
 abbrev node : Base → Bool → Node Base
@@ -30,10 +30,6 @@ base_down w b (Some n) m e = ap (λ t. cond t (base_did w b (step n.is m)) w) e
 
 pub runs_on_at : (o : Option (Node Base)) (n : Node Base) → o ≡ Some n → is_up o ≡ true → n.runs ≡ true
 runs_on_at o n at up = sym (ap is_up at) ∙ up
-
-pub not_stopped : (b : Bool) → not b ≡ true → b ≡ false
-not_stopped true e = cc
-not_stopped false e = refl
 
 module _ {F : Type 0} (log : F → LogView) (authors : F → List Author) where
   abbrev pub with_base : Held F → ℕ → BaseDomain F → List (List (List BasePacketView)) → Held F

@@ -15,8 +15,9 @@ use Rattle.protocol.specs.WorldSteps.{asked_all, asked_of, count_by, count_in}
 use Rattle.protocol.proofs.Lists.{map_get}
 use Rattle.schedule.specs.Sessions.{Session}
 use Rattle.view_domain.specs.Domains.{Domain as ViewDomain}
-use Rattle.world.specs.Held.{Held, IsPlaced, IsDone, world_of, view_node}
-use Rattle.world.proofs.Looking.{answered, stands}
+use Rattle.machine.specs.Held.{Held, IsPlaced, IsDone, world_of, view_node}
+use Rattle.machine.proofs.Meeting.{stands}
+use Rattle.world.proofs.Looking.{answered}
 
 -- ---- sums that stay at a greatest number
 abbrev upto : ℕ → ℕ → ℕ → ℕ

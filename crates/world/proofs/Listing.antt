@@ -1,6 +1,6 @@
 -- Lists that agree are of one log.
 use Rattle.model.specs.Fronts.{LogView, Agree}
-use Rattle.world.specs.Held.{AgreeingAreOne}
+use Rattle.machine.specs.Held.{AgreeingAreOne}
 
 -- as plain lists have it
 abbrev pub are_one : LogView → LogView → Type 0

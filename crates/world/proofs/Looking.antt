@@ -21,8 +21,9 @@ use Rattle.protocol.proofs.Lists.{map_get}
 use Rattle.schedule.specs.Sessions.{Session}
 use Rattle.view_domain.specs.Domains.{Domain as ViewDomain, lines_of}
 use Rattle.view_domain.specs.Shown.{rows_at}
-use Rattle.world.specs.Held.{Held, IsPlaced, IsDone, IsViewOf, world_of, view_node, base_node}
-use Rattle.world.proofs.Acks.{knows_still, with_session, session_world, session_placed}
+use Rattle.machine.specs.Held.{Held, IsPlaced, IsDone, IsViewOf, world_of, view_node, base_node}
+use Rattle.machine.proofs.Acks.{knows_still, with_session, session_world, session_placed}
+use Rattle.machine.proofs.Meeting.{stands}
 
 -- ---- a key
 entry_filled : {E : Type 0} (st : State E) → is_some (entry_of st) ≡ is_filled (stand_of st)
@@ -68,16 +69,6 @@ own_shard p r i k d is at =
     let s = is_view p r i (view_shard p i k) d is at in
     ap (λ q. view_shard q d.view k) is.plan ∙ (ap (λ v. view_shard p v k) s.0 ∙ sym s.1)
 
-below : {X : Type 0} (xs : List X) (i : ℕ) (x : X) → slice_get xs i ≡ Some x → i < length xs
-below [] i x at = cc
-below (y ∷ xs) zero x at = omega (arith)
-below (y ∷ xs) (suc i) x at = let h = below xs i x at in omega (arith, h)
-
-pub stands : {X : Type 0} (xs : List X) (i : ℕ) → i < length xs → (x : X) × (slice_get xs i ≡ Some x)
-stands [] i lt = absurd (omega (arith, lt))
-stands (x ∷ xs) zero lt = (x, refl)
-stands (x ∷ xs) (suc i) lt = stands xs i (omega (arith, lt))
-
 module _ {F : Type 0} (log : F → LogView) (authors : F → List Author) where
   -- ---- a look
   module _ (h : Held F) (se : ℕ) (c : Caller) (i : ℕ) (k : Datum) (r : ℕ) (d : ViewDomain) (p : IsPlaced log authors h) (at : slice_get h.views r ≡ Some d) where
@@ -114,9 +105,6 @@ module _ {F : Type 0} (log : F → LogView) (authors : F → List Author) where
           reply = ap (λ x. hit x cut) all ∙ ap (hit (answer h.plan (lines_of d.cut) i k)) cut-is;
           placed = session_placed log authors h se new p (knows_still (map (base_node log authors) h.bases) se s new (ap (λ (x : Session). x.own) new-is) (p.sessions.each se s own));
         })
-
-  pub reader_there : (h : Held F) (r : ℕ) (x : Reader) → IsPlaced log authors h → slice_get (readers h.plan) r ≡ Some x → r < length h.views
-  reader_there h r x p at = subst (λ n. r < n) (sym p.views.size) (below (readers h.plan) r x at)
 
   -- ---- a try
   pub tried : (h : Held F) (se : ℕ) (view : List ℕ) (k : Datum) (i r : ℕ) (reply : Reply) (last : Held F) (q : Layout) → q ≡ h.plan → se < length h.sessions → view_named q view ≡ Some i → read_refusal q (view_named q view) k ≡ None → r ≡ reader_of h.plan i k

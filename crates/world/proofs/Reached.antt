@@ -7,7 +7,7 @@ use Rattle.protocol.specs.Events.{Event, Reply}
 use Rattle.protocol.specs.Laws.{IsReached, Move, happens, comes, world_after}
 use Rattle.protocol.specs.Worlds.{World, start}
 use Rattle.protocol.specs.WorldSteps.{Did, step, delivery}
-use Rattle.world.specs.Held.{Held, IsWhole, IsDone, world_of}
+use Rattle.machine.specs.Held.{Held, IsWhole, IsDone, world_of}
 
 abbrev moved_by : World → Move → World
 moved_by w (happens e) = (step w e).world

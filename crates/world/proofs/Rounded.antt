@@ -18,7 +18,7 @@ use Rattle.protocol.specs.Views as view
 use Rattle.protocol.specs.ViewSteps as on_view
 use Rattle.protocol.specs.Worlds.{Node, World, Caller, Fence}
 use Rattle.protocol.specs.WorldSteps.{Did, Round, round, rounds, delivery, ended_by, is_idle, says, base_takes, base_did, stage_takes, stage_did, view_takes, view_did, acked, raised, with_caller, ack_from, ack_of, fence_told, fence_over, is_covered, base_came, stage_came, ask_came, base_ask_came, lengths_of}
-use Rattle.world.specs.Held.{Held, IsWhole, IsDone, world_of}
+use Rattle.machine.specs.Held.{Held, IsWhole, IsDone, world_of}
 use Rattle.world.specs.Rounds.{HasMoved, IsRound}
 use Rattle.world.proofs.Reached.{whole_delivered}
 

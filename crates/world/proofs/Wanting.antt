@@ -17,8 +17,8 @@ use Rattle.protocol.specs.WorldSteps.{Did, says, reader_of, want_by, want_in, wa
 use Rattle.protocol.proofs.Lists.{map_get}
 use Rattle.schedule.specs.Sessions.{Session}
 use Rattle.view_domain.specs.Domains.{Domain as ViewDomain, view_of}
-use Rattle.world.specs.Held.{Held, IsPlaced, IsDone, world_of, view_node}
-use Rattle.world.proofs.Looking.{stands}
+use Rattle.machine.specs.Held.{Held, IsPlaced, IsDone, world_of, view_node}
+use Rattle.machine.proofs.Meeting.{stands}
 
 pub some_copied : {X : Type 0} (o : Option (Bor X)) → is_some o ≡ is_some (option_copied o)
 some_copied None = refl

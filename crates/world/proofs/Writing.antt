@@ -23,14 +23,14 @@ use Rattle.protocol.proofs.Lists.{map_set, map_get, map_same, set_same, got}
 use Rattle.schedule.specs.Sessions.{Session}
 use Rattle.base_domain.specs.Domains.{Domain as BaseDomain}
 use Rattle.base_domain.specs.Received.{base_at, IsFor}
-use Rattle.world.specs.Held.{Held, Are, IsPlaced, IsWhole, IsDone, IsBaseOf, KnowsOwn, world_of, base_node}
+use Rattle.machine.specs.Held.{Held, Are, IsPlaced, IsWhole, IsDone, IsBaseOf, KnowsOwn, world_of, base_node}
 use Rattle.world.specs.Noted.{AreLogged, IsSmall, noted}
-use Rattle.world.specs.Turned.{IsBaseGiven, IsBaseTurn}
-use Rattle.world.proofs.Acks.{knows_still, session_world, session_placed}
+use Rattle.machine.specs.Turned.{IsBaseGiven, IsBaseTurn}
+use Rattle.machine.proofs.Acks.{knows_still, session_world, session_placed}
 use Rattle.world.proofs.Based.{with_base, base_world, own_turn, quiet_placed}
 use Rattle.world.proofs.Fenced.{called}
-use Rattle.world.proofs.Looking.{stands}
-use Rattle.world.proofs.Steps.{set_are}
+use Rattle.machine.proofs.Meeting.{stands}
+use Rattle.machine.proofs.Steps.{set_are}
 
 -- ---- what a base shard answers
 -- not accepted: its log stays

@@ -4,7 +4,7 @@ use Rattle.model.specs.Fronts.{LogView}
 use Rattle.model.specs.Histories.{Author}
 use Rattle.model.specs.Lists.{ListView}
 use Rattle.protocol.specs.Worlds.{World}
-use Rattle.world.specs.Held.{Held, world_of}
+use Rattle.machine.specs.Held.{Held, world_of}
 
 -- all domains and edges, and whether a step was cut short: then nothing is said of them
 pub record WorldView : Type 0 where

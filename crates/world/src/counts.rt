@@ -3,10 +3,10 @@ ghost use Rattle.std.specs.Prelude.{◌≡◌, map, slice_get};
 ghost use Rattle.protocol.specs.ViewSteps.{counted};
 ghost use Rattle.protocol.specs.WorldSteps.{asked_all, asked_of, count_by};
 ghost use Rattle.schedule.specs.Codes.{reply_of};
-ghost use Rattle.world.specs.Held.{IsDone, IsWhole, view_node, world_of};
-ghost use Rattle.world.specs.Machines.{held};
+ghost use Rattle.machine.specs.Held.{IsDone, IsWhole, view_node, world_of};
+ghost use Rattle.machine.specs.Machines.{held};
 
-use crate::machine::Machine;
+use machine::machine::Machine;
 use model::fronts::Fronts;
 use row::refused::Refused;
 use schedule::arguments::view_target;

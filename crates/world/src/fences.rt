@@ -6,14 +6,14 @@ ghost use Rattle.packet.specs.Codes.{mark_of};
 ghost use Rattle.protocol.specs.Bases.{marker as marker_to};
 ghost use Rattle.protocol.specs.WorldSteps.{all_run, base_takes, fence_by, is_up as is_node_up, lower_run, marked};
 ghost use Rattle.schedule.specs.Codes.{reply_of};
-ghost use Rattle.world.specs.Held.{IsDone, IsPlaced, IsWhole, base_node, runs, stage_node, view_node, world_of};
-ghost use Rattle.world.specs.Machines.{held};
+ghost use Rattle.machine.specs.Held.{IsDone, IsPlaced, IsWhole, base_node, runs, stage_node, view_node, world_of};
+ghost use Rattle.machine.specs.Machines.{held};
 ghost use Rattle.world.specs.Rounds.{IsAt};
 
-use crate::bases::{base_runs, give_base};
-use crate::machine::Machine;
 use base_domain::base_domain::BaseDomain;
 use base_domain::message::ToBase;
+use machine::bases::{base_runs, give_base};
+use machine::machine::Machine;
 use model::fronts::Fronts;
 use packet::mode::Mode;
 use packet::request::Marker;

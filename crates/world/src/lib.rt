@@ -1,19 +1,11 @@
-//! All domains of a plan and all edges between them in one value: every schedule, with no thread.
+//! The events of a schedule over all domains of a plan, in one value with no thread.
 #![tactic(auto)]
 
-mod bases;
 mod counts;
-mod deliveries;
 mod events;
 mod fences;
-mod machine;
-mod orders;
 mod reads;
 mod settles;
-mod starts;
-mod stops;
-mod turns;
-mod views;
 mod wants;
 pub mod world;
 mod writes;

@@ -10,11 +10,11 @@ ghost use Rattle.protocol.specs.Worlds.{Caller};
 ghost use Rattle.protocol.specs.WorldSteps.{looked, try_by};
 ghost use Rattle.schedule.specs.Codes.{reply_of};
 ghost use Rattle.view_domain.specs.Domains.{lines_of, view_of};
-ghost use Rattle.world.specs.Held.{IsDone, IsPlaced, IsWhole, view_node, world_of};
-ghost use Rattle.world.specs.Machines.{held};
+ghost use Rattle.machine.specs.Held.{IsDone, IsPlaced, IsWhole, view_node, world_of};
+ghost use Rattle.machine.specs.Machines.{held};
 
-use crate::machine::Machine;
-use crate::views::cut_lengths;
+use machine::machine::Machine;
+use machine::views::cut_lengths;
 use model::fronts::Fronts;
 use row::refused::Refused;
 use row::row::Row;

@@ -3,12 +3,12 @@ ghost use Rattle.std.specs.Prelude.{◌≡◌, ◌<◌, ◌++◌, [], true, fals
 ghost use Rattle.protocol.specs.Edges.{wires};
 ghost use Rattle.protocol.specs.WorldSteps.{delivery, ended_by, is_idle, most_rounds, round, rounds};
 ghost use Rattle.schedule.specs.Codes.{reply_of, wire_in};
-ghost use Rattle.world.specs.Held.{AgreeingAreOne, IsDone, IsWhole, world_of};
-ghost use Rattle.world.specs.Machines.{held};
+ghost use Rattle.machine.specs.Held.{AgreeingAreOne, IsDone, IsWhole, world_of};
+ghost use Rattle.machine.specs.Machines.{held};
 ghost use Rattle.world.specs.Rounds.{HasMoved, IsRound};
 
-use crate::deliveries::deliver;
-use crate::machine::Machine;
+use machine::deliveries::deliver;
+use machine::machine::Machine;
 use model::fronts::Fronts;
 use row::refused::Refused;
 use schedule::event::Reply;

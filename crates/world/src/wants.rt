@@ -6,12 +6,12 @@ ghost use Rattle.partial.specs.States.{is_filled};
 ghost use Rattle.protocol.specs.WorldSteps.{is_up, lower_run, want_by, wanted_at};
 ghost use Rattle.schedule.specs.Codes.{reply_of};
 ghost use Rattle.view_domain.specs.Domains.{view_of};
-ghost use Rattle.world.specs.Held.{IsDone, IsPlaced, IsWhole, view_node, world_of};
-ghost use Rattle.world.specs.Machines.{held};
+ghost use Rattle.machine.specs.Held.{IsDone, IsPlaced, IsWhole, view_node, world_of};
+ghost use Rattle.machine.specs.Machines.{held};
 
 use crate::fences::{are_both, lower_runs};
-use crate::machine::Machine;
-use crate::views::{give_view, view_runs};
+use machine::machine::Machine;
+use machine::views::{give_view, view_runs};
 use model::fronts::Fronts;
 use row::refused::Refused;
 use row::value::Value;

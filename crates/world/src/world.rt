@@ -5,13 +5,13 @@ ghost use Rattle.protocol.specs.Theorem.{AreLegal};
 ghost use Rattle.protocol.specs.Worlds.{start};
 ghost use Rattle.protocol.specs.WorldSteps.{replies, step};
 ghost use Rattle.schedule.specs.Codes.{event_of, reply_of};
-ghost use Rattle.world.specs.Held.{Are};
+ghost use Rattle.machine.specs.Held.{Are};
 ghost use Rattle.world.specs.Listed.{authors_of, log_of, world_in};
-ghost use Rattle.world.specs.Started.{IsFirst};
+ghost use Rattle.machine.specs.Started.{IsFirst};
 
 use crate::events::step;
-use crate::machine::Machine;
-use crate::starts::new_machine;
+use machine::machine::Machine;
+use machine::starts::new_machine;
 use model::list::{ListFront, ListRight};
 use model::places::base_count;
 use plan::plan::Plan;
@@ -30,9 +30,9 @@ pub struct World<'p> {
 
 impl<'p> Model for World<'p> {
     ghost use Rattle.std.specs.Prelude.{◌≡◌, false};
-    ghost use Rattle.world.specs.Held.{IsWhole};
+    ghost use Rattle.machine.specs.Held.{IsWhole};
     ghost use Rattle.world.specs.Listed.{WorldView, authors_of, log_of};
-    ghost use Rattle.world.specs.Machines.{held};
+    ghost use Rattle.machine.specs.Machines.{held};
 
     ghost Value = { WorldView };
 

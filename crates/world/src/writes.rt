@@ -8,13 +8,13 @@ ghost use Rattle.base_domain.specs.Received.{verdict_of as verdict_in};
 ghost use Rattle.protocol.specs.Events.{accepted};
 ghost use Rattle.protocol.specs.WorldSteps.{verdict_of, write_by, written};
 ghost use Rattle.schedule.specs.Codes.{reply_of};
-ghost use Rattle.world.specs.Held.{IsDone, IsPlaced, IsWhole, base_node, world_of};
-ghost use Rattle.world.specs.Machines.{held};
+ghost use Rattle.machine.specs.Held.{IsDone, IsPlaced, IsWhole, base_node, world_of};
+ghost use Rattle.machine.specs.Machines.{held};
 ghost use Rattle.world.specs.Noted.{AreLogged, IsSmall, noted};
 
-use crate::bases::{base_runs, give_base};
-use crate::machine::Machine;
 use base_domain::message::{ToBase, Write};
+use machine::bases::{base_runs, give_base};
+use machine::machine::Machine;
 use model::entry::Entry;
 use model::fronts::Fronts;
 use model::places::place_of;

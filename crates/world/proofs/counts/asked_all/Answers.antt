@@ -1,6 +1,6 @@
 use Rattle.std.proofs.Common.{ap, ◌∙◌}
 use Rattle.protocol.specs.WorldSteps.{asked_of}
-use Rattle.world.specs.Held.{view_node}
+use Rattle.machine.specs.Held.{view_node}
 use Rattle.world.proofs.Counting.{asked_more, asked_whole}
 use Rattle.world.proofs.counts.asked_all.Goals as goal
 

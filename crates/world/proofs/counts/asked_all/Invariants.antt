@@ -1,6 +1,6 @@
 use Rattle.std.proofs.Common.{◌≡◌, map, take}
 use Rattle.protocol.specs.WorldSteps.{asked_all}
-use Rattle.world.specs.Held.{view_node}
+use Rattle.machine.specs.Held.{view_node}
 use Rattle.world.proofs.counts.asked_all.Given as goal
 
 abbrev pub invariant-loop-domain : goal.invariant-loop-domain

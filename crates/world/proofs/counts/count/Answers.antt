@@ -1,11 +1,11 @@
 use Rattle.std.proofs.Common.{map, refl, ap, ◌∙◌, arith}
 use Rattle.protocol.specs.WorldSteps.{asked_all, count_by}
-use Rattle.world.specs.Held.{view_node, world_of}
-use Rattle.world.specs.Machines.{held}
+use Rattle.machine.specs.Held.{view_node, world_of}
+use Rattle.machine.specs.Machines.{held}
 use Rattle.world.proofs.Counting.{counts, count_refused}
 use Rattle.row.specs.declared.refused.Refused.TheVariants.{UnknownPlace}
 use Rattle.protocol.specs.Events.{refused}
-use Rattle.world.proofs.Acks.{stranger}
+use Rattle.machine.proofs.Acks.{stranger}
 use Rattle.world.proofs.counts.count.Goals as goal
 
 pub returns-in-Ok : goal.returns-in-Ok

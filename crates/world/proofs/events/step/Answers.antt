@@ -2,8 +2,8 @@ use Rattle.std.proofs.Common.{sym, subst}
 use Rattle.std.specs.Result.{IfOk}
 use Rattle.protocol.specs.WorldSteps.{step}
 use Rattle.schedule.specs.Codes.{event_of, reply_of}
-use Rattle.world.specs.Held.{IsDone, world_of}
-use Rattle.world.specs.Machines.{held}
+use Rattle.machine.specs.Held.{IsDone, world_of}
+use Rattle.machine.specs.Machines.{held}
 use Rattle.world.proofs.events.step.Goals as goal
 
 pub returns-in-Settle : goal.returns-in-Settle

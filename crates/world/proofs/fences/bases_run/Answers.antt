@@ -2,7 +2,7 @@ use Rattle.std.proofs.Common.{rules, map, slice_get}
 use Rattle.std.proofs.lemmas.Iterator.{YieldsList-from_slice}
 use Rattle.std.proofs.lemmas.Iterator.Search.{all_from_yields_List}
 use Rattle.protocol.specs.WorldSteps.{is_up}
-use Rattle.world.specs.Held.{base_node}
+use Rattle.machine.specs.Held.{base_node}
 use Rattle.world.proofs.fences.bases_run.Goals as goal
 
 pub returns : goal.returns

@@ -1,12 +1,12 @@
 use Rattle.std.proofs.Common.{Some, refl, ap, sym, ◌∙◌, arith}
-use Rattle.world.specs.Machines.{held}
+use Rattle.machine.specs.Machines.{held}
 use Rattle.world.proofs.Fenced.{fence_refused, fence_goes, opened_placed}
-use Rattle.world.proofs.Meeting.{there_at}
+use Rattle.machine.proofs.Meeting.{there_at}
 use Rattle.row.specs.declared.refused.Refused.TheVariants.{UnknownPlace}
 use Rattle.protocol.specs.Events.{refused}
 use Rattle.protocol.specs.WorldSteps.{fence_by}
-use Rattle.world.specs.Held.{world_of}
-use Rattle.world.proofs.Acks.{stranger}
+use Rattle.machine.specs.Held.{world_of}
+use Rattle.machine.proofs.Acks.{stranger}
 use Rattle.world.proofs.fences.fence.Goals as goal
 
 pub returns-then-not-is_up : goal.returns-then-not-is_up

@@ -1,7 +1,7 @@
 use Rattle.std.proofs.Common.{◌&&◌, map, ap, ◌∙◌}
 use Rattle.protocol.specs.WorldSteps.{all_run, lower_run}
-use Rattle.world.specs.Held.{view_node, world_of}
-use Rattle.world.specs.Machines.{held}
+use Rattle.machine.specs.Held.{view_node, world_of}
+use Rattle.machine.specs.Machines.{held}
 use Rattle.world.proofs.fences.is_up.Goals as goal
 
 pub returns : goal.returns

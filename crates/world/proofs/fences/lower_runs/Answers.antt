@@ -1,7 +1,7 @@
 use Rattle.std.proofs.Common.{◌&&◌, map, slice_get, ap, ◌∙◌}
 use Rattle.std.specs.List.{list_all}
 use Rattle.protocol.specs.WorldSteps.{all_run, is_up}
-use Rattle.world.specs.Held.{base_node, stage_node}
+use Rattle.machine.specs.Held.{base_node, stage_node}
 use Rattle.world.proofs.fences.lower_runs.Goals as goal
 
 pub returns : goal.returns

@@ -2,8 +2,8 @@ use Rattle.std.proofs.Common.{◌≡◌, drop, length}
 use Rattle.model.specs.Places.{sources}
 use Rattle.packet.specs.Codes.{mark_of}
 use Rattle.protocol.specs.WorldSteps.{marked}
-use Rattle.world.specs.Held.{IsPlaced, world_of}
-use Rattle.world.specs.Machines.{held}
+use Rattle.machine.specs.Held.{IsPlaced, world_of}
+use Rattle.machine.specs.Machines.{held}
 use Rattle.world.proofs.fences.mark_all.Given as goal
 
 abbrev pub invariant-loop-at : goal.invariant-loop-at

@@ -3,7 +3,7 @@ use Rattle.std.proofs.lemmas.Iterator.{YieldsList-from_slice}
 use Rattle.std.proofs.lemmas.Iterator.Search.{all_from_yields_List}
 use Rattle.std.proofs.lemmas.List.Folds.{list_all-map}
 use Rattle.protocol.specs.Worlds.{Node}
-use Rattle.world.specs.Held.{runs, view_node}
+use Rattle.machine.specs.Held.{runs, view_node}
 use Rattle.world.proofs.fences.views_run.Goals as goal
 
 pub returns : goal.returns

@@ -3,8 +3,8 @@ use Rattle.row.specs.Cells.{datum_of}
 use Rattle.model.specs.Queries.{answer}
 use Rattle.protocol.specs.WorldSteps.{lengths_of}
 use Rattle.view_domain.specs.Domains.{Domain, lines_of}
-use Rattle.world.specs.Machines.{held}
-use Rattle.world.proofs.Meeting.{there_at}
+use Rattle.machine.specs.Machines.{held}
+use Rattle.machine.proofs.Meeting.{there_at}
 use Rattle.world.proofs.Looking.{own_shard, some_of, is_there, is_not, one_of, missed, hits}
 use Rattle.world.proofs.reads.look.Goals as goal
 

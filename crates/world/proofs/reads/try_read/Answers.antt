@@ -1,12 +1,13 @@
 use Rattle.std.proofs.Common.{refl, arith}
 use Rattle.row.specs.Cells.{datum_of}
-use Rattle.world.specs.Machines.{held}
-use Rattle.world.proofs.Looking.{reader_there, tried, try_refused}
+use Rattle.machine.specs.Machines.{held}
+use Rattle.machine.proofs.Meeting.{reader_there}
+use Rattle.world.proofs.Looking.{tried, try_refused}
 use Rattle.row.specs.declared.refused.Refused.TheVariants.{UnknownPlace}
 use Rattle.protocol.specs.Events.{refused}
 use Rattle.protocol.specs.WorldSteps.{try_by}
-use Rattle.world.specs.Held.{world_of}
-use Rattle.world.proofs.Acks.{stranger}
+use Rattle.machine.specs.Held.{world_of}
+use Rattle.machine.proofs.Acks.{stranger}
 use Rattle.world.proofs.reads.try_read.Goals as goal
 
 pub look-requires : goal.look-requires

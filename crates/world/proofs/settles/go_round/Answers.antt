@@ -2,7 +2,7 @@ use Rattle.std.proofs.Common.{◌≡◌, Some, slice_get, length, refl, ap, sym,
 use Rattle.std.proofs.lemmas.List.{length-map}
 use Rattle.protocol.specs.Edges.{wires}
 use Rattle.schedule.specs.Codes.{wire_in}
-use Rattle.world.specs.Machines.{held}
+use Rattle.machine.specs.Machines.{held}
 use Rattle.world.proofs.Rounded.{plan_stays, goes_on, round_ends}
 use Rattle.world.proofs.settles.go_round.Goals as goal
 

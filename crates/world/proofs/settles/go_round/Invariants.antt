@@ -1,8 +1,8 @@
 use Rattle.std.proofs.Common.{◌≡◌, false, drop, length}
 use Rattle.protocol.specs.Edges.{wires}
 use Rattle.protocol.specs.WorldSteps.{round}
-use Rattle.world.specs.Held.{IsWhole, world_of}
-use Rattle.world.specs.Machines.{held}
+use Rattle.machine.specs.Held.{IsWhole, world_of}
+use Rattle.machine.specs.Machines.{held}
 use Rattle.world.proofs.Rounded.{at_round}
 use Rattle.world.proofs.settles.go_round.Given as goal
 

@@ -1,5 +1,5 @@
 use Rattle.schedule.specs.Codes.{wire_in, reply_of}
-use Rattle.world.specs.Machines.{held}
+use Rattle.machine.specs.Machines.{held}
 use Rattle.world.proofs.Rounded.{has_moved}
 use Rattle.world.proofs.settles.move_one.Goals as goal
 

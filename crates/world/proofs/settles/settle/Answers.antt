@@ -1,8 +1,8 @@
 use Rattle.std.proofs.Common.{◌≡◌, ◌+◌, ◌-◌, ◌<◌, ◌≤◌, ℕ, suc, refl, ap, sym, ◌∙◌, subst, arith}
 use Rattle.protocol.specs.Events.{settled, unsettled}
 use Rattle.protocol.specs.WorldSteps.{rounds, most_rounds}
-use Rattle.world.specs.Held.{IsDone, world_of}
-use Rattle.world.specs.Machines.{held}
+use Rattle.machine.specs.Held.{IsDone, world_of}
+use Rattle.machine.specs.Machines.{held}
 use Rattle.world.proofs.Rounded.{rounds_go, rounds_end}
 use Rattle.world.proofs.settles.settle.Goals as goal
 

@@ -1,7 +1,7 @@
 use Rattle.std.proofs.Common.{◌≡◌, ℕ, ◌+◌, []}
 use Rattle.protocol.specs.WorldSteps.{rounds, most_rounds}
-use Rattle.world.specs.Held.{IsWhole, world_of}
-use Rattle.world.specs.Machines.{held}
+use Rattle.machine.specs.Held.{IsWhole, world_of}
+use Rattle.machine.specs.Machines.{held}
 use Rattle.world.proofs.settles.settle.Given as goal
 
 abbrev pub invariant-loop-at : goal.invariant-loop-at

@@ -1,6 +1,6 @@
 use Rattle.std.proofs.Common.{◌&&◌, map, slice_get, ap, ◌∙◌}
 use Rattle.protocol.specs.WorldSteps.{is_up}
-use Rattle.world.specs.Held.{view_node}
+use Rattle.machine.specs.Held.{view_node}
 use Rattle.world.proofs.wants.can_ask.Goals as goal
 
 pub returns : goal.returns

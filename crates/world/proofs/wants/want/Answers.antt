@@ -1,8 +1,8 @@
 use Rattle.std.proofs.Common.{arith}
 use Rattle.row.specs.Cells.{datum_of}
-use Rattle.world.specs.Machines.{held}
-use Rattle.world.proofs.Acks.{past_end}
-use Rattle.world.proofs.Looking.{reader_there}
+use Rattle.machine.specs.Machines.{held}
+use Rattle.machine.proofs.Acks.{past_end}
+use Rattle.machine.proofs.Meeting.{reader_there}
 use Rattle.world.proofs.Wanting.{wants, want_refused, want_unknown}
 use Rattle.schedule.specs.Sessions.{Session}
 use Rattle.world.proofs.wants.want.Goals as goal

@@ -1,9 +1,9 @@
 use Rattle.std.proofs.Common.{◌∙◌, Some, ap, sym}
 use Rattle.row.specs.Cells.{datum_of}
 use Rattle.protocol.specs.Views.{want}
-use Rattle.world.specs.Machines.{held}
-use Rattle.world.proofs.Meeting.{there_at}
-use Rattle.world.proofs.Ordered.{same_key}
+use Rattle.machine.specs.Machines.{held}
+use Rattle.machine.proofs.Meeting.{there_at}
+use Rattle.machine.proofs.Ordered.{same_key}
 use Rattle.world.proofs.Wanting.{shown_already, cannot_ask, has_asked, is_up_of}
 use Rattle.world.proofs.wants.want_at.Goals as goal
 

@@ -1,6 +1,6 @@
-use Rattle.world.specs.Held.{Are}
+use Rattle.machine.specs.Held.{Are}
 use Rattle.world.specs.Listed.{authors_of, log_of}
-use Rattle.world.specs.Started.{IsFirst}
+use Rattle.machine.specs.Started.{IsFirst}
 use Rattle.world.proofs.world.list_rights.Given as goal
 
 abbrev pub invariant-loop-base : goal.invariant-loop-base

@@ -6,7 +6,7 @@ use Rattle.protocol.proofs.Every.{every_schedule}
 use Rattle.protocol.proofs.Lists.{map_get}
 use Rattle.schedule.specs.Codes.{event_of, reply_of}
 use Rattle.world.specs.Listed.{world_in}
-use Rattle.world.proofs.Meeting.{there_at}
+use Rattle.machine.proofs.Meeting.{there_at}
 use Rattle.world.proofs.Replaying.{all_replied, map_push, replied}
 use Rattle.world.proofs.world.replay.Goals as goal
 

@@ -3,9 +3,9 @@ use Rattle.plan.specs.Layouts.{table_at}
 use Rattle.model.specs.Entries.{change_of}
 use Rattle.model.specs.Logs.{fits}
 use Rattle.schedule.specs.Sessions.{Session}
-use Rattle.world.specs.Machines.{held}
-use Rattle.world.proofs.Acks.{past_end}
-use Rattle.world.proofs.Meeting.{there_at}
+use Rattle.machine.specs.Machines.{held}
+use Rattle.machine.proofs.Acks.{past_end}
+use Rattle.machine.proofs.Meeting.{there_at}
 use Rattle.world.proofs.Writing.{begun_placed, still_there, are_logged, write_refused, write_goes, write_unknown, fits_there, shard_there}
 use Rattle.world.proofs.writes.write.Goals as goal
 

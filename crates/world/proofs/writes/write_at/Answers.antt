@@ -4,11 +4,11 @@ use Rattle.model.specs.Places.{base_count}
 use Rattle.base_domain.specs.Received.{verdict_of as verdict_in}
 use Rattle.protocol.specs.Bases.{write as write_of}
 use Rattle.schedule.specs.Codes.{reply_of}
-use Rattle.world.specs.Held.{base_node}
-use Rattle.world.specs.Machines.{held}
-use Rattle.world.specs.Turned.{IsBaseGiven}
+use Rattle.machine.specs.Held.{base_node}
+use Rattle.machine.specs.Machines.{held}
+use Rattle.machine.specs.Turned.{IsBaseGiven}
 use Rattle.world.proofs.Based.{given_plan, given_sessions}
-use Rattle.world.proofs.Meeting.{seen_there, seen_up, there_at}
+use Rattle.machine.proofs.Meeting.{seen_there, seen_up, there_at}
 use Rattle.world.proofs.Writing.{given_small, has_written, is_for, not_written}
 use Rattle.world.proofs.writes.write_at.Goals as goal
 

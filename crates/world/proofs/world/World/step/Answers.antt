@@ -1,6 +1,6 @@
 use Rattle.schedule.specs.Codes.{event_of, reply_of}
 use Rattle.world.specs.Listed.{authors_of, log_of}
-use Rattle.world.specs.Machines.{held}
+use Rattle.machine.specs.Machines.{held}
 use Rattle.world.proofs.Reached.{whole_stepped}
 use Rattle.world.proofs.world.World.step.Goals as goal
 

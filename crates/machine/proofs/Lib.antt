@@ -1,0 +1,12 @@
+mod Queued
+mod StageTurns
+mod ViewTurns
+mod BaseTurns
+pub mod Steps
+pub mod Meeting
+pub mod Acks
+mod Viewed
+mod Sending
+pub mod Ordered
+mod Stopping
+mod Starting

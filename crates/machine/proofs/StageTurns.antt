@@ -1,0 +1,85 @@
+-- A message to a stage shard: where it and its packets stand then.
+use Rattle.std.proofs.Common.{Bool, ◌≡◌, ◌≢◌, ℕ, zero, suc, ◌<◌, true, List, [], ◌∷◌, map, Option, Some, None, slice_get, slice_index_or, refl, ap, sym, ◌∙◌, subst}
+use Rattle.row.specs.Bags.{Each}
+use Rattle.plan.specs.Layouts.{Layout}
+use Rattle.model.specs.Places.{sources}
+use Rattle.packet.specs.Lines.{entries_of}
+use Rattle.packet.specs.Messages.{BasePacketView, StagePacketView, Piece, Mark, none_of}
+use Rattle.packet.specs.Outboxes.{EdgeView, packets_on}
+use Rattle.packet.specs.Readers.{Reader, readers}
+use Rattle.packet.specs.Truth.{Pointwise, sent_of}
+use Rattle.packet.specs.declared.mode.Mode.{Mode}
+use Rattle.packet.specs.declared.mode.Mode.TheVariants as mode
+use Rattle.protocol.specs.Edges.{pushed}
+use Rattle.protocol.specs.Stages.{Stage, ToStage, packet, request, order, Done}
+use Rattle.protocol.specs.StageSteps.{step}
+use Rattle.stage_domain.specs.Domains.{Domain, stage_of, IsTo, IsDone}
+use Rattle.stage_domain.proofs.FullSteps.{entry_step, marker_step, piece_step, request_step}
+use Rattle.protocol.specs.Worlds.{Node}
+use Rattle.protocol.proofs.Lists.{each_to}
+use Rattle.machine.specs.Held.{IsStageOf, IsSentBy, AreQueued, runs}
+use Rattle.machine.specs.Turned.{IsStageTurn}
+use Rattle.machine.proofs.Queued.{queued_pushed, map_pushed}
+
+abbrev pub reader : ℕ → ℕ → Reader
+reader i j = record { view = i; shard = j }
+
+abbrev node : Stage → Bool → Node Stage
+node x b = record { is = x; runs = b }
+
+-- it is still the shard of its plan
+record Stays (d : Domain) (done : Done) : Type 0 where
+  plan : done.stage.plan ≡ d.plan
+  shard : done.stage.shard ≡ d.shard
+
+stays_packet : (d : Domain) (j : ℕ) (k : BasePacketView) (piece : Option Piece) (m : Option Mark) → k.piece ≡ piece → k.marker ≡ m → Stays d (step (stage_of d) (packet j k))
+stays_packet d j k (Some piece) m e f =
+    let s = piece_step d.plan d.shard (entries_of d.line) d.marks j k piece e in
+    record { plan = ap (λ (x : Done). x.stage.plan) s; shard = ap (λ (x : Done). x.stage.shard) s }
+stays_packet d j k None (Some m) e f =
+    let s = marker_step d.plan d.shard (entries_of d.line) d.marks j k m e f in
+    record { plan = ap (λ (x : Done). x.stage.plan) s; shard = ap (λ (x : Done). x.stage.shard) s }
+stays_packet d j k None None e f =
+    let s = entry_step d.plan d.shard (entries_of d.line) d.marks j k e f in
+    record { plan = ap (λ (x : Done). x.stage.plan) s; shard = ap (λ (x : Done). x.stage.shard) s }
+
+stays : (d : Domain) (m : ToStage) → Stays d (step (stage_of d) m)
+stays d (packet j k) = stays_packet d j k k.piece k.marker refl refl
+stays d (request a) =
+    let s = request_step d.plan d.shard (entries_of d.line) d.marks a in
+    record { plan = ap (λ (x : Done). x.stage.plan) s; shard = ap (λ (x : Done). x.stage.shard) s }
+stays d (order x) = record { plan = refl; shard = refl }
+
+-- the packets to a reader stand at its place
+at_place : {X Y : Type 0} (To : X → Y → Type 0) (Is : ℕ → Y → Type 0) (rs : List X) (xss : List (List Y)) → Pointwise (λ r xs. Each (To r) xs) rs xss → ((r : ℕ) (x : X) → slice_get rs r ≡ Some x → (y : Y) → To x y → Is r y)
+    → (r : ℕ) → Each (Is r) (slice_index_or xss r [])
+at_place To Is [] [] h f r = tt
+at_place To Is [] (xs ∷ xss) h f r = absurd h
+at_place To Is (x ∷ rs) [] h f r = absurd h
+at_place To Is (x ∷ rs) (xs ∷ xss) h f zero = each_to (To x) (Is zero) (f zero x refl) xs h.0
+at_place To Is (x ∷ rs) (xs ∷ xss) h f (suc r) = at_place To (λ r. Is (suc r)) rs xss h.1 (λ r. f (suc r)) r
+
+sent_by : (p : Layout) (s : ℕ) → s < p.stages → (r : ℕ) (x : Reader) → slice_get (readers p) r ≡ Some x → (y : StagePacketView) → IsTo p s x y → IsSentBy p r s y
+sent_by p s lt r x at y to = record { plan = to.plan; stage = to.stage; place = lt; reader = at ∙ ap Some (same x y to.view to.shard) }
+  where
+    same : (x : Reader) (y : StagePacketView) → y.view ≡ x.view → y.shard ≡ x.shard → x ≡ record { view = y.view; shard = y.shard }
+    same x y e f = ap (λ i. reader i x.shard) (sym e) ∙ ap (λ j. reader y.view j) (sym f)
+
+pub running_whole : (m : Mode) → m ≡ mode.Running → m ≢ mode.Broken
+running_whole m is e = let no : mode.Running ≡ mode.Broken = sym is ∙ e in cc
+
+pub stage_turn : (s : ℕ) (old new : Domain) (m : ToStage) (out : List (EdgeView StagePacketView)) (before after : List (List (List StagePacketView))) → IsStageOf old.plan s old → IsDone (step (stage_of old) m) out new → after ≡ pushed s (packets_on out) before
+    → IsStageTurn old.plan s (step (stage_of old) m) before new after
+stage_turn s old new m out before after is done put =
+    let stay = stays old m in
+    let plan : new.plan ≡ old.plan = ap (λ (x : Stage). x.plan) done.stage ∙ stay.plan in
+    let shard : new.shard ≡ s = ap (λ (x : Stage). x.shard) done.stage ∙ (stay.shard ∙ is.shard) in
+    let to : Pointwise (λ r xs. Each (IsTo old.plan s r) xs) (readers old.plan) (packets_on out) = rw (← plan, ← shard) done.to in
+    record {
+      node = ap (λ b. node (stage_of new) b) (ap runs done.running) ∙ ap (λ x. node x true) done.stage;
+      is = record { plan = plan; shard = shard; place = is.place; whole = running_whole new.mode done.running };
+      sent = ap (map (map (map sent_of))) put ∙ (map_pushed sent_of s (packets_on out) before ∙ ap (λ xss. pushed s xss (map (map (map sent_of)) before)) done.sent);
+      queued = λ h. subst (AreQueued (IsSentBy old.plan)) (sym put)
+          (queued_pushed (IsSentBy old.plan) s (packets_on out) before h (at_place (IsTo old.plan s) (λ r. IsSentBy old.plan r s) (readers old.plan) (packets_on out) to (sent_by old.plan s is.place)));
+      requests = done.asks ∙ ap (λ p. none_of (sources p)) plan;
+    }

@@ -1,0 +1,362 @@
+-- The world before the first event is the empty one, and all is in its place.
+use Rattle.std.proofs.Common.{Bool, true, false, not, ◌≡◌, ◌⊎◌, inl, inr, ℕ, zero, suc, ◌+◌, ◌<◌, ◌≤◌, List, [], ◌∷◌, ◌++◌, map, length, length-append, drop, replicate, Some, None, slice_get, slice_index_or, take, refl, ap, sym, ◌∙◌, subst, arith}
+use Rattle.std.specs.List.{range_with_len}
+use Rattle.std.proofs.lemmas.List.{length-map, map-append, map_more, replicate_more, take_all}
+use Rattle.std.proofs.lemmas.List.FromFn.{length-map-range_with_len}
+use Rattle.row.specs.Bags.{Each}
+use Rattle.plan.specs.Layouts.{Layout}
+use Rattle.plan.specs.Profile.{IsPlan}
+use Rattle.model.specs.Fronts.{LogView}
+use Rattle.model.specs.Histories.{Author}
+use Rattle.model.specs.Legal.{most_sessions}
+use Rattle.model.specs.Places.{base_count, sources}
+use Rattle.model.specs.Queries.{Line}
+use Rattle.packet.specs.Lines.{AreOf, IsOf, entries_of}
+use Rattle.packet.specs.Messages.{Ask, BasePacketView, StagePacketView}
+use Rattle.packet.specs.Readers.{Reader, readers, readers_of}
+use Rattle.packet.specs.declared.reader.Reader.{Reader as Code}
+use Rattle.packet.specs.Truth.{Pointwise, sent_of}
+use Rattle.packet.specs.declared.mode.Mode.TheVariants as mode
+use Rattle.protocol.specs.Bases.{Base}
+use Rattle.protocol.specs.Stages.{Stage}
+use Rattle.protocol.specs.Views.{View}
+use Rattle.protocol.specs.Worlds.{Node, start, first_base, first_stage, first_view, first_line, first_caller, no_queues}
+use Rattle.protocol.specs.WorldSteps.{own_in}
+use Rattle.protocol.proofs.Lists.{each_at, each_map, each_of, map_get}
+use Rattle.protocol.proofs.Owns.{each_flat}
+use Rattle.protocol.proofs.Spots.{each_range}
+use Rattle.protocol.proofs.Start.{range_map_get}
+use Rattle.protocol.proofs.Within.{sources_small}
+use Rattle.base_domain.specs.Domains.{Domain as BaseDomain}
+use Rattle.schedule.specs.Codes.{reader_in}
+use Rattle.schedule.specs.Sessions.{Session}
+use Rattle.stage_domain.specs.Domains.{Domain as StageDomain}
+use Rattle.view_domain.specs.Domains.{Domain as ViewDomain, lines_of}
+use Rattle.machine.specs.Held.{Held, Are, AreQueued, IsPlaced, IsWhole, IsBaseOf, IsStageOf, IsViewOf, KnowsOwn, world_of, base_node, stage_node, view_node, sent_in}
+use Rattle.machine.specs.Started.{AreFirst, IsNewBase, first_log, first_logs, new_stage, new_stages, new_view, new_views, new_session, new_sessions}
+use Rattle.machine.proofs.Meeting.{there_at}
+use Rattle.machine.proofs.Queued.{nothing_queued}
+
+-- ---- lists that are made one by one
+module _ {X : Type 0} where
+  got_last : (xs : List X) (x : X) (i : ℕ) (y : X) → slice_get (xs ++ x ∷ []) i ≡ Some y → (slice_get xs i ≡ Some y) ⊎ ((i ≡ length xs) × (y ≡ x))
+  got_last [] x zero y at = inr (refl, cc)
+  got_last [] x (suc i) y at = cc
+  got_last (z ∷ xs) x zero y at = inl at
+  got_last (z ∷ xs) x (suc i) y at = elim (got_last xs x i y at) as (λ _. (slice_get (z ∷ xs) (suc i) ≡ Some y) ⊎ ((suc i ≡ length (z ∷ xs)) × (y ≡ x))) [ inl r ↦ inl r | inr r ↦ inr (ap suc r.0, r.1) ]
+
+  pub are_more : (Is : ℕ → X → Type 0) (n : ℕ) (xs ys : List X) (x : X) → Are Is n xs → Is n x → ys ≡ xs ++ x ∷ [] → Are Is (n + 1) ys
+  are_more Is n xs ys x are is put = subst (Are Is (n + 1)) (sym put) (record {
+    size = omega (arith, length-append xs (x ∷ []), are.size);
+    each = λ i y at. by i y (got_last xs x i y at);
+  })
+    where
+      by : (i : ℕ) (y : X) → ((slice_get xs i ≡ Some y) ⊎ ((i ≡ length xs) × (y ≡ x))) → Is i y
+      by i y (inl at) = are.each i y at
+      by i y (inr r) = subst (λ z. Is i z) (sym r.1) (subst (λ k. Is k x) (sym (r.0 ∙ are.size)) is)
+
+  -- the first of what is left stands there
+  pub next_one : (xs : List X) (n : ℕ) (x : X) (rest : List X) → drop n xs ≡ x ∷ rest → (slice_get xs n ≡ Some x) × (drop (n + 1) xs ≡ rest)
+  next_one [] zero x rest e = cc
+  next_one [] (suc n) x rest e = cc
+  next_one (y ∷ xs) zero x rest e = (cc, cc)
+  next_one (y ∷ xs) (suc n) x rest e =
+      let r = next_one xs n x rest e in
+      let more : suc n + 1 ≡ suc (n + 1) = omega (arith) in
+      (r.0, ap (λ k. drop k (y ∷ xs)) more ∙ r.1)
+
+  -- where nothing is left, all were taken
+  pub all_taken : (xs : List X) (n : ℕ) → drop n xs ≡ [] → n ≤ length xs → n ≡ length xs
+  all_taken [] n e le = omega (arith, le)
+  all_taken (y ∷ xs) zero e le = cc
+  all_taken (y ∷ xs) (suc n) e le = ap suc (all_taken xs n e (omega (arith, le)))
+
+  pub is_there : (xs : List X) (i : ℕ) (x : X) → slice_get xs i ≡ Some x → i < length xs
+  is_there [] i x at = cc
+  is_there (y ∷ xs) zero x at = omega (arith)
+  is_there (y ∷ xs) (suc i) x at = let r = is_there xs i x at in omega (arith, r)
+
+  replicate_get : (n : ℕ) (x : X) (i : ℕ) (y : X) → slice_get (replicate n x) i ≡ Some y → y ≡ x
+  replicate_get zero x i y at = cc
+  replicate_get (suc n) x zero y at = cc
+  replicate_get (suc n) x (suc i) y at = replicate_get n x i y at
+
+  replicate_or : (n : ℕ) (x : X) (i : ℕ) → slice_index_or (replicate n x) i x ≡ x
+  replicate_or zero x i = refl
+  replicate_or (suc n) x zero = refl
+  replicate_or (suc n) x (suc i) = replicate_or n x i
+
+  replicate_size : (n : ℕ) (x : X) → length (replicate n x) ≡ n
+  replicate_size zero x = refl
+  replicate_size (suc n) x = ap suc (replicate_size n x)
+
+  pub same_more : (n : ℕ) (x y : X) (was now : List X) → was ≡ replicate n x → y ≡ x → now ≡ was ++ y ∷ [] → now ≡ replicate (n + 1) x
+  same_more n x y was now before is put = put ∙ (ap (λ l. l ++ y ∷ []) before ∙ (ap (λ z. replicate n x ++ z ∷ []) is ∙ replicate_more n x))
+
+module _ {X Y : Type 0} where
+  -- the image of one more
+  pub taken_more : (f : X → Y) (xs : List X) (i : ℕ) (d : X) (was now : List Y) (y : Y) → i < length xs → was ≡ map f (take i xs) → y ≡ f (slice_index_or xs i d) → now ≡ was ++ y ∷ [] → now ≡ map f (take (i + 1) xs)
+  taken_more f xs i d was now y lt before is put = put ∙ (ap (λ l. l ++ y ∷ []) before ∙ (ap (λ z. map f (take i xs) ++ z ∷ []) is ∙ sym (map_more f xs i d lt)))
+
+  pub map_pushed : (f : X → Y) (was now : List X) (x : X) → now ≡ was ++ x ∷ [] → map f now ≡ map f was ++ f x ∷ []
+  map_pushed f was now x put = ap (map f) put ∙ map-append f was (x ∷ [])
+
+  pub taken_all : (f : X → Y) (xs : List X) (i : ℕ) → length xs ≤ i → map f (take i xs) ≡ map f xs
+  taken_all f xs i le = ap (map f) (take_all i xs le)
+
+  images : (f : X → Y) (g : ℕ → Y) (a : ℕ) (xs : List X) → ((i : ℕ) (x : X) → slice_get xs i ≡ Some x → f x ≡ g (a + i)) → map f xs ≡ map g (range_with_len a (length xs))
+  images f g a [] h = refl
+  images f g a (x ∷ xs) h =
+      let e : a + 0 ≡ a = omega (arith) in
+      ap (λ y. y ∷ map f xs) (h 0 x refl ∙ ap g e) ∙ ap (λ ys. g a ∷ ys) (images f g (a + 1) xs (λ i y at. let s : a + suc i ≡ a + 1 + i = omega (arith) in h (suc i) y at ∙ ap g s))
+
+  are_images : (Is : ℕ → X → Type 0) (f : X → Y) (g : ℕ → Y) (n : ℕ) (xs : List X) → Are Is n xs → ((i : ℕ) (x : X) → Is i x → f x ≡ g i) → map f xs ≡ map g (range_with_len 0 n)
+  are_images Is f g n xs are h =
+      images f g 0 xs (λ i x at. let s : i ≡ 0 + i = omega (arith) in h i x (are.each i x at) ∙ ap g s) ∙ ap (λ k. map g (range_with_len 0 k)) are.size
+
+  map_got : (f : X → Y) (xs : List X) (i : ℕ) (y : Y) → slice_get (map f xs) i ≡ Some y → (x : X) × (slice_get xs i ≡ Some x) × (y ≡ f x)
+  map_got f [] i y at = cc
+  map_got f (x ∷ xs) zero y at = (x, refl, cc)
+  map_got f (x ∷ xs) (suc i) y at = map_got f xs i y at
+
+  map_replicate : (f : X → Y) (n : ℕ) (x : X) → map f (replicate n x) ≡ replicate n (f x)
+  map_replicate f zero x = refl
+  map_replicate f (suc n) x = ap (λ ys. f x ∷ ys) (map_replicate f n x)
+
+pub map_both : {X Y Z : Type 0} (f : Y → Z) (g : X → Y) (h : X → Z) → ((x : X) → f (g x) ≡ h x) → (xs : List X) → map f (map g xs) ≡ map h xs
+map_both f g h e [] = refl
+map_both f g h e (x ∷ xs) = ap (λ z. z ∷ map f (map g xs)) (e x) ∙ ap (λ zs. h x ∷ zs) (map_both f g h e xs)
+
+-- ---- lines
+logs_of : (p : Layout) (bs : List ℕ) → Pointwise (IsOf p) bs (map (first_log p) bs)
+logs_of p [] = tt
+logs_of p (b ∷ bs) = (record { plan = refl; base = refl }, logs_of p bs)
+
+pub line_of : (p : Layout) → AreOf p (first_logs p)
+line_of p = logs_of p (sources p)
+
+pub line_empty : (p : Layout) → Each (λ (l : LogView). l.entries ≡ []) (first_logs p)
+line_empty p = each_map (λ b. Unit {0}) (λ (l : LogView). l.entries ≡ []) (first_log p) (λ b u. refl) (sources p) (each_of (λ b. Unit {0}) (sources p) (λ b. tt))
+
+pub cut_of : (p : Layout) (n : ℕ) → Each (AreOf p) (replicate n (first_logs p))
+cut_of p zero = tt
+cut_of p (suc n) = (line_of p, cut_of p n)
+
+entries_first : (p : Layout) → entries_of (first_logs p) ≡ first_line p
+entries_first p = map_both (λ (l : LogView). l.entries) (first_log p) (λ b. []) (λ b. refl) (sources p)
+
+-- ---- stage shards
+abbrev stage_over : Layout → ℕ → Line → Node Stage
+stage_over p s line = record { is = record { plan = p; shard = s; line = line; right = None; pending = []; asked = None; marks = [] }; runs = true }
+
+stage_is : (p : Layout) (s : ℕ) → stage_node (new_stage p s) ≡ first_stage false p s
+stage_is p s = ap (stage_over p s) (entries_first p)
+
+stages_are : (p : Layout) → map stage_node (new_stages p) ≡ map (first_stage false p) (range_with_len 0 p.stages)
+stages_are p = map_both stage_node (new_stage p) (first_stage false p) (stage_is p) (range_with_len 0 p.stages)
+
+not_broken : mode.Running ≡ mode.Broken → ⊥
+not_broken e = cc
+
+stages_placed : (p : Layout) → Are (IsStageOf p) p.stages (new_stages p)
+stages_placed p = record {
+  size = length-map-range_with_len (new_stage p) 0 p.stages;
+  each = λ s d at.
+      let r = range_map_get (new_stage p) 0 p.stages s d at in
+      let e : 0 + s ≡ s = omega (arith) in
+      subst (IsStageOf p s) (sym (r.1 ∙ ap (new_stage p) e)) (record { plan = refl; shard = refl; place = r.0; whole = not_broken });
+}
+
+-- ---- view shards
+abbrev view_over : Layout → Reader → List Line → Node View
+view_over p r cut = record (first_view p r) { is = record (first_view p r).is { cut = cut } }
+
+cut_is : (p : Layout) → lines_of (replicate p.stages (first_logs p)) ≡ replicate p.stages (first_line p)
+cut_is p = map_replicate entries_of p.stages (first_logs p) ∙ ap (replicate p.stages) (entries_first p)
+
+view_is : (p : Layout) (r : Reader) → view_node (new_view p r) ≡ first_view p r
+view_is p r = ap (view_over p r) (cut_is p)
+
+views_are : (p : Layout) → map view_node (new_views p) ≡ map (first_view p) (readers p)
+views_are p = map_both view_node (new_view p) (first_view p) (view_is p) (readers p)
+
+pub readers_there : (p : Layout) → Each (λ (r : Reader). r.view < length p.views) (readers p)
+readers_there p =
+    each_flat (λ (r : Reader). r.view < length p.views) (readers_of p) (range_with_len 0 (length p.views))
+    (each_range (λ i. Each (λ (r : Reader). r.view < length p.views) (readers_of p i)) 0 (length p.views) (λ k lt. of_view (0 + k) (omega (arith, lt))))
+  where
+    of_view : (i : ℕ) → i < length p.views → Each (λ (r : Reader). r.view < length p.views) (readers_of p i)
+    of_view i lt = all (range_with_len 0 _)
+      where
+        all : (js : List ℕ) → Each (λ (r : Reader). r.view < length p.views) (map (λ j. record { view = i; shard = j }) js)
+        all [] = tt
+        all (j ∷ js) = (lt, all js)
+
+views_placed : (p : Layout) → Are (IsViewOf p) (length (readers p)) (new_views p)
+views_placed p = record {
+  size = length-map (readers p) (new_view p);
+  each = λ r d at.
+      let g = map_got (new_view p) (readers p) r d at in
+      subst (IsViewOf p r) (sym g.2) (record { plan = refl; reader = g.1; place = each_at (λ (x : Reader). x.view < length p.views) (readers p) r g.0 g.1 (readers_there p); whole = not_broken });
+}
+
+-- ---- what the calls that make them leave
+abbrev stage_from : Layout → ℕ → List LogView → StageDomain
+stage_from p s line = record { plan = p; shard = s; line = line; marks = []; mode = mode.Running }
+
+pub stage_made : (p : Layout) (s : ℕ) (line : List LogView) (d : StageDomain) → line ≡ first_logs p → d ≡ stage_from p s line → d ≡ new_stage p s
+stage_made p s line d same is = is ∙ ap (stage_from p s) same
+
+abbrev view_from : Layout → Reader → List (List LogView) → ViewDomain
+view_from p r cut = record {
+  plan = p;
+  view = r.view;
+  shard = r.shard;
+  cut = cut;
+  kept = record { sources = p.stages; filled = []; waiting = [] };
+  asked = 0;
+  marks = record { senders = p.stages; waiting = [] };
+  mode = mode.Running;
+}
+
+pub cut_size : (q : Layout) (cut : List (List LogView)) → cut ≡ replicate q.stages (first_logs q) → length cut ≡ q.stages
+cut_size q cut is = ap length is ∙ replicate_size q.stages (first_logs q)
+
+pub cut_made : (p q : Layout) (n : ℕ) (line : List LogView) (cut : List (List LogView)) → q ≡ p → n ≡ q.stages → line ≡ first_logs p → cut ≡ replicate n line → cut ≡ replicate q.stages (first_logs q)
+cut_made p q n line cut same size is made = made ∙ (ap (λ k. replicate k line) size ∙ ap (replicate q.stages) (is ∙ ap first_logs (sym same)))
+
+pub view_made : (p q : Layout) (r : Reader) (cut : List (List LogView)) (d : ViewDomain) → q ≡ p → cut ≡ replicate q.stages (first_logs q) → d ≡ view_from q r cut → d ≡ new_view p r
+view_made p q r cut d same made is = is ∙ (ap (view_from q r) made ∙ ap (λ x. new_view x r) same)
+
+pub reader_there : (p q : Layout) (xs : List Code) (i : ℕ) (x d : Code) → q ≡ p → map reader_in xs ≡ readers p → i < length xs → x ≡ slice_index_or xs i d → x.view < length q.views
+reader_there p q xs i x d same are lt is =
+    let at : slice_get (readers p) i ≡ Some (reader_in x) = ap (λ rs. slice_get rs i) (sym are) ∙ map_get reader_in xs i x (there_at xs i d lt ∙ ap Some (sym is)) in
+    subst (λ l. x.view < length l.views) (sym same) (each_at (λ (r : Reader). r.view < length p.views) (readers p) i (reader_in x) at (readers_there p))
+
+-- ---- queues
+nothing_sent : (n m : ℕ) → sent_in (no_queues n m) ≡ no_queues n m
+nothing_sent n m = map_replicate (map (map sent_of)) n (replicate m []) ∙ ap (replicate n) (map_replicate (map sent_of) m [])
+
+none_queued : {X : Type 0} (Is : ℕ → ℕ → X → Type 0) (n m : ℕ) → AreQueued Is (no_queues n m)
+none_queued Is n m r i = subst (Each (Is r i)) (sym (nothing_queued n m r i)) tt
+
+pub queues_are : {X : Type 0} (n m k l : ℕ) (q : List (List (List X))) → q ≡ no_queues n m → n ≡ k → m ≡ l → q ≡ no_queues k l
+queues_are n m k l q is a b = is ∙ (ap (λ x. no_queues x m) a ∙ ap (λ x. no_queues k x) b)
+
+-- ---- sessions
+callers_are : (p : Layout) → map (λ (s : Session). s.is) (new_sessions p) ≡ replicate most_sessions (first_caller p)
+callers_are p = map_replicate (λ (s : Session). s.is) most_sessions (new_session p)
+
+none_own : (p : Layout) (bs : List ℕ) (se b : ℕ) → own_in se (slice_get (map (first_base p) bs) b) ≡ 0
+none_own p [] se b = refl
+none_own p (x ∷ bs) se zero = refl
+none_own p (x ∷ bs) se (suc b) = none_own p bs se b
+
+known : (p : Layout) (bases : List (Node Base)) (se : ℕ) (s : Session) → bases ≡ map (first_base p) (range_with_len 0 (base_count p)) → s ≡ new_session p → KnowsOwn bases se s
+known p bases se s are is = record {
+  size = ap (λ (x : Session). length x.own) is ∙ (replicate_size {X = ℕ} (base_count p) 0 ∙ sym (ap length are ∙ length-map-range_with_len (first_base p) 0 (base_count p)));
+  each = λ b.
+      ap (λ (x : Session). slice_index_or x.own b 0) is
+      ∙ (replicate_or (base_count p) 0 b ∙ sym (ap (λ ns. own_in se (slice_get ns b)) are ∙ none_own p (range_with_len 0 (base_count p)) se b));
+}
+
+sessions_placed : (p : Layout) (bases : List (Node Base)) → bases ≡ map (first_base p) (range_with_len 0 (base_count p)) → Are (KnowsOwn bases) most_sessions (new_sessions p)
+sessions_placed p bases are = record {
+  size = replicate_size most_sessions (new_session p);
+  each = λ se s at. known p bases se s are (replicate_get most_sessions (new_session p) se s at);
+}
+
+abbrev session_of : Layout → ℕ → Session
+session_of p bases = record { is = first_caller p; own = replicate bases 0 }
+
+pub session_made : (p : Layout) (bases : ℕ) (s : Session) → bases ≡ base_count p → s ≡ session_of p bases → s ≡ new_session p
+session_made p bases s same is = is ∙ ap (session_of p) same
+
+-- ---- all of it
+module _ {F : Type 0} (log : F → LogView) (authors : F → List Author) where
+  abbrev node_of : LogView → List Author → Bool → Node Base
+  node_of l wrote b = record { is = record { plan = l.plan; base = l.base; entries = l.entries; authors = wrote }; runs = b }
+
+  base_is : (p : Layout) (b : ℕ) (d : BaseDomain F) → IsNewBase log authors p b d → base_node log authors d ≡ first_base p b
+  base_is p b d is =
+      ap (λ l. node_of l (authors d.front) (not d.stopped)) is.first.of
+      ∙ (ap (λ wrote. node_of (first_log p b) wrote (not d.stopped)) is.first.unsaid ∙ ap (λ x. node_of (first_log p b) [] (not x)) is.runs)
+
+  base_placed : (p : Layout) (b : ℕ) (d : BaseDomain F) → IsNewBase log authors p b d → IsBaseOf log authors p b d
+  base_placed p b d is = record {
+    plan = ap (λ (l : LogView). l.plan) is.first.of;
+    base = ap (λ (l : LogView). l.base) is.first.of;
+    sessions = ap length is.next ∙ replicate_size {X = ℕ} most_sessions 0;
+  }
+
+  -- all parts of it are new
+  pub record IsNew (p : Layout) (h : Held F) : Type 0 where
+    pub plan : h.plan ≡ p
+    pub bases : Are (IsNewBase log authors p) (base_count p) h.bases
+    pub stages : h.stages ≡ new_stages p
+    pub views : h.views ≡ new_views p
+    pub to_stage : h.to_stage ≡ no_queues p.stages (length (sources p))
+    pub to_view : h.to_view ≡ no_queues (length (readers p)) p.stages
+    pub from_view : h.from_view ≡ no_queues p.stages (length (readers p))
+    pub sessions : h.sessions ≡ new_sessions p
+
+  abbrev made : Layout → List (BaseDomain F) → Held F
+  made p bases = record {
+    plan = p;
+    bases = bases;
+    stages = new_stages p;
+    views = new_views p;
+    to_stage = no_queues p.stages (length (sources p));
+    to_view = no_queues (length (readers p)) p.stages;
+    from_view = no_queues p.stages (length (readers p));
+    sessions = new_sessions p;
+  }
+
+  abbrev held_of : List (BaseDomain F) → Layout → List StageDomain → List ViewDomain → List (List (List BasePacketView)) → List (List (List StagePacketView)) → List (List (List Ask)) → List Session → Held F
+  held_of bases p stages views to_stage to_view from_view sessions =
+      record { plan = p; bases = bases; stages = stages; views = views; to_stage = to_stage; to_view = to_view; from_view = from_view; sessions = sessions }
+
+  is_made : (p : Layout) (h : Held F) → IsNew p h → h ≡ made p h.bases
+  is_made p h n = by h.plan h.stages h.views h.to_stage h.to_view h.from_view h.sessions n.plan n.stages n.views n.to_stage n.to_view n.from_view n.sessions
+    where
+      by : (q : Layout) (stages : List StageDomain) (views : List ViewDomain) (to_stage : List (List (List BasePacketView))) (to_view : List (List (List StagePacketView))) (from_view : List (List (List Ask))) (sessions : List Session)
+          → q ≡ p → stages ≡ new_stages p → views ≡ new_views p → to_stage ≡ no_queues p.stages (length (sources p)) → to_view ≡ no_queues (length (readers p)) p.stages → from_view ≡ no_queues p.stages (length (readers p)) → sessions ≡ new_sessions p
+          → held_of h.bases q stages views to_stage to_view from_view sessions ≡ made p h.bases
+      by q stages views to_stage to_view from_view sessions a b c d e f g = rw (a, b, c, d, e, f, g) refl
+
+  bases_are : (p : Layout) (bases : List (BaseDomain F)) → Are (IsNewBase log authors p) (base_count p) bases → map (base_node log authors) bases ≡ map (first_base p) (range_with_len 0 (base_count p))
+  bases_are p bases are = are_images (IsNewBase log authors p) (base_node log authors) (first_base p) (base_count p) bases are (base_is p)
+
+  made_world : (p : Layout) (bases : List (BaseDomain F)) → Are (IsNewBase log authors p) (base_count p) bases → world_of log authors (made p bases) ≡ start false p
+  made_world p bases are = rw (bases_are p bases are, stages_are p, views_are p, nothing_sent (length (readers p)) p.stages, callers_are p) refl
+
+  made_placed : (p : Layout) (bases : List (BaseDomain F)) → IsPlan p → Are (IsNewBase log authors p) (base_count p) bases → IsPlaced log authors (made p bases)
+  made_placed p bases good are = record {
+    good = good;
+    bases = record { size = are.size; each = λ b d at. base_placed p b d (are.each b d at) };
+    stages = stages_placed p;
+    views = views_placed p;
+    to_stage = none_queued _ p.stages (length (sources p));
+    to_view = none_queued _ (length (readers p)) p.stages;
+    from_view = none_queued _ p.stages (length (readers p));
+    sessions = sessions_placed p (map (base_node log authors) bases) (bases_are p bases are);
+  }
+
+  pub new_world : (p : Layout) (h : Held F) → IsNew p h → world_of log authors h ≡ start false p
+  new_world p h n = ap (world_of log authors) (is_made p h n) ∙ made_world p h.bases n.bases
+
+  pub new_whole : (p : Layout) (h : Held F) → IsPlan p → IsNew p h → IsWhole log authors h
+  new_whole p h good n = record {
+    reached = record { by_key = false; plan = p; good = good; moves = []; after = new_world p h n };
+    placed = subst (IsPlaced log authors) (sym (is_made p h n)) (made_placed p h.bases good n.bases);
+  }
+
+  -- the right to append to the log of a source is there
+  pub source_there : {R : Type 0} (front : R → F) (p q : Layout) (bs : List ℕ) (rights : List R) (i : ℕ) → q ≡ p → IsPlan q → bs ≡ sources p → AreFirst log authors front p rights → i < length bs → slice_index_or bs i 0 < length rights
+  source_there front p q bs rights i same good are first lt =
+      let at : slice_get (sources p) i ≡ Some (slice_index_or bs i 0) = ap (λ l. slice_get l i) (sym are) ∙ there_at bs i 0 lt in
+      subst (λ n. slice_index_or bs i 0 < n) (sym first.size) (each_at (λ x. x < base_count p) (sources p) i (slice_index_or bs i 0) at (sources_small p (subst IsPlan same good)))
+
+  -- and its front is of the empty log
+  pub source_right : {R : Type 0} (front : R → F) (p : Layout) (rights : List R) (b : ℕ) (r : R) → AreFirst log authors front p rights → b < length rights → r ≡ slice_index_or rights b r → log (front r) ≡ first_log p b
+  source_right front p rights b r first lt is = (first.each b r (there_at rights b r lt ∙ ap Some (sym is))).of

@@ -1,0 +1,7 @@
+use Rattle.std.proofs.Common.{◌≡◌, map, take}
+use Rattle.schedule.specs.Codes.{reader_in}
+use Rattle.machine.specs.Started.{new_view}
+use Rattle.machine.proofs.starts.new_views.Given as goal
+
+abbrev pub invariant-loop-reader : goal.invariant-loop-reader
+invariant-loop-reader g l = l.views.items ≡ map (λ r. new_view l.places (reader_in r)) (take l.reader-index l.reader-items)

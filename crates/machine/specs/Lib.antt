@@ -1,0 +1,4 @@
+pub mod Held
+pub mod Turned
+pub mod Machines
+pub mod Started

@@ -1,0 +1,68 @@
+//! Orders to evict a key of a view.
+ghost use Rattle.std.specs.Prelude.{◌≡◌, ◌<◌, true, Some, length, map, slice_get, IfOk};
+ghost use Rattle.row.specs.Cells.{datum_of};
+ghost use Rattle.plan.specs.Layouts.{view_named};
+ghost use Rattle.model.specs.Refusals.{evict_refusal};
+ghost use Rattle.protocol.specs.WorldSteps.{evict_view_in, is_up, view_order};
+ghost use Rattle.schedule.specs.Codes.{reply_of};
+ghost use Rattle.machine.specs.Held.{IsDone, IsPlaced, IsWhole, view_node, world_of};
+ghost use Rattle.machine.specs.Machines.{held};
+
+use crate::machine::Machine;
+use crate::views::{give_view, view_runs};
+use model::fronts::Fronts;
+use row::refused::Refused;
+use row::value::Value;
+use schedule::arguments::read_target;
+use schedule::event::Reply;
+use std::alloc::Global;
+use view_domain::message::ToView;
+
+/// An order to evict a key of a view: at a filled key it is a hole then. Errors: then nothing is
+/// said of the machine.
+pub fn evict<F: Fronts>(
+    alloc: Global,
+    machine: &mut Machine<F>,
+    view: &str,
+    key: &Value,
+) -> Result<Reply, Refused>
+    requires whole { IsWhole F.log F.authors (held machine.old) }
+    ensures done { IfOk result (λ r. IsDone F.log F.authors
+        (evict_view_in (world_of F.log F.authors (held machine.old))
+        (view_named (held machine.old).plan view.now) (datum_of key.now)
+        (evict_refusal (held machine.old).plan (Some (view_named (held machine.old).plan view.now))
+        (datum_of key.now))) (reply_of r) (held machine.new)) }
+{
+    let view = match read_target(machine.places.plan(), view, key) {
+        Ok(view) => view,
+        Err(refused) => return Ok(Reply::Refused(refused)),
+    };
+    let reader = machine.places.reader_of(view, key);
+    if !view_runs(&machine.views, reader) {
+        return Ok(Reply::Refused(Refused::Stopped));
+    }
+    let reply = order_key(alloc, machine, key, reader)?;
+    Ok(reply)
+}
+
+/// A view shard that runs is to evict a key. Errors: then nothing is said of the machine.
+fn order_key<F: Fronts>(
+    alloc: Global,
+    machine: &mut Machine<F>,
+    key: &Value,
+    reader: usize,
+) -> Result<Reply, Refused>
+    requires placed { IsPlaced F.log F.authors (held machine.old) }
+    requires up { is_up (slice_get (map view_node (held machine.old).views) reader) ≡ true }
+    requires there { reader < length (held machine.old).views }
+    ensures done { IfOk result (λ r. IsDone F.log F.authors
+        (view_order (world_of F.log F.authors (held machine.old)) (datum_of key.now) reader
+        (slice_get (map view_node (held machine.old).views) reader)) (reply_of r)
+        (held machine.new)) }
+{
+    let Ok(key) = key.try_clone(alloc) else {
+        return Err(Refused::NoMemory);
+    };
+    give_view(alloc, machine, reader, ToView::Order { key })?;
+    Ok(Reply::Evicted)
+}

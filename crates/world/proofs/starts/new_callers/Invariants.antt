@@ -1,6 +1,0 @@
-use Rattle.std.proofs.Common.{◌≡◌, replicate}
-use Rattle.world.specs.Started.{new_session}
-use Rattle.world.proofs.starts.new_callers.Given as goal
-
-abbrev pub invariant-loop : goal.invariant-loop
-invariant-loop l = l.callers.items ≡ replicate l.counter (new_session l.places)
