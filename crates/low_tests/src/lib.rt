@@ -3,20 +3,4 @@
 #![tactic(auto)]
 
 #[cfg(test)]
-mod bases;
-#[cfg(test)]
-mod books;
-#[cfg(test)]
-mod cells;
-#[cfg(test)]
-mod edges;
-#[cfg(test)]
-mod fronts;
-#[cfg(test)]
-mod packets;
-#[cfg(test)]
-mod plans;
-#[cfg(test)]
-mod rows;
-#[cfg(test)]
-mod schedules;
+mod tests;

@@ -4,7 +4,7 @@ ghost use Rattle.std.specs.List.{list_all};
 ghost use Rattle.plan.specs.Outputs.{pass};
 ghost use Rattle.plan.specs.Layouts.{table_at};
 ghost use Rattle.model.specs.Places.{side_count};
-ghost use Rattle.model.specs.Queries.{stage_rows, side_share, side_rows, left, right};
+ghost use Rattle.model.specs.Queries.{side_share, side_rows, left, right};
 ghost use Rattle.plain.specs.Fitting.{is_line, all_fit};
 
 use crate::front::{Front, Line};
@@ -15,26 +15,7 @@ use plan::table::Table;
 use row::row::Row;
 use std::alloc::{AllocError, Global};
 
-/// The rows of the front whose stage key has the stage shard.
-fn stage_rows(
-    alloc: Global,
-    plan: &Plan,
-    stage: usize,
-    side: &Side,
-    front: &Front,
-) -> Result<Vec<Row>, AllocError>
-    requires { side.now.table < length plan.now.tables }
-    ensures { IfOk result (λ rows. rows.items ≡ stage_rows plan.now stage side.now front.now) }
-{
-    plan.keeps_profile();
-    let stages = plan.stages();
-    let column = side.key();
-    let mut rows = rows_of(alloc, plan.table(side.table()).key(), front)?;
-    rows.retain(|row| row.has_shard(column, stages, stage));
-    Ok(rows)
-}
-
-/// Those of them that pass the side's conditions.
+/// The rows of the front whose stage key has the stage shard and that pass the side's conditions.
 fn side_share(
     alloc: Global,
     plan: &Plan,
@@ -45,7 +26,11 @@ fn side_share(
     requires { side.now.table < length plan.now.tables }
     ensures { IfOk result (λ rows. rows.items ≡ side_share plan.now stage side.now front.now) }
 {
-    let mut rows = stage_rows(alloc, plan, stage, side, front)?;
+    plan.keeps_profile();
+    let stages = plan.stages();
+    let column = side.key();
+    let mut rows = rows_of(alloc, plan.table(side.table()).key(), front)?;
+    rows.retain(|row| row.has_shard(column, stages, stage));
     rows.retain(|row| side.pass(row));
     Ok(rows)
 }
@@ -80,38 +65,27 @@ fn sides<'a>(plan: &Plan, line: &'a Line) -> (&'a [Front], &'a [Front])
     fronts.split_at(count.min(fronts.len()))
 }
 
-/// The left rows of the stage shard over the line: over all shards of the left table, the rows of
-/// the front whose stage key has the stage shard and that pass the left conditions. Errors: memory
-/// only. Costs what the rows of the fronts cost.
-pub fn left_rows(
+/// The left rows of the stage shard over the line, and the right rows: over all shards of the side's
+/// table, the rows of the front whose stage key has the stage shard and that pass the side's
+/// conditions; no right rows where the stage has no right side. Errors: memory only. Costs what the
+/// rows of the fronts cost.
+pub fn rows_of_sides(
     alloc: Global,
     plan: &Plan,
     stage: usize,
     line: &Line,
-) -> Result<Vec<Row>, AllocError>
-    ensures { IfOk result (λ rows. rows.items ≡ left plan.now stage line.now) }
+) -> Result<(Vec<Row>, Vec<Row>), AllocError>
+    ensures left { IfOk result (λ rows. rows.0.items ≡ left plan.now stage line.now) }
+    ensures right { IfOk result (λ rows. rows.1.items ≡ right plan.now stage line.now) }
 {
     plan.keeps_profile();
-    let fronts = sides(plan, line).0;
-    side_rows(alloc, plan, stage, plan.left(), fronts)
-}
-
-/// The right rows of the stage shard over the line, likewise; none where the stage has no right
-/// side. Errors: memory only. Costs what the rows of the fronts cost.
-pub fn right_rows(
-    alloc: Global,
-    plan: &Plan,
-    stage: usize,
-    line: &Line,
-) -> Result<Vec<Row>, AllocError>
-    ensures { IfOk result (λ rows. rows.items ≡ right plan.now stage line.now) }
-{
-    plan.keeps_profile();
-    let fronts = sides(plan, line).1;
-    match plan.right() {
-        Some(side) => side_rows(alloc, plan, stage, side, fronts),
-        None => Ok(Vec::new(alloc)),
-    }
+    let (lefts, rights) = sides(plan, line);
+    let left = side_rows(alloc, plan, stage, plan.left(), lefts)?;
+    let right = match plan.right() {
+        Some(side) => side_rows(alloc, plan, stage, side, rights)?,
+        None => Vec::new(alloc),
+    };
+    Ok((left, right))
 }
 
 /// Whether each entry of the line fits its table, the left one for the first fronts, as many as it

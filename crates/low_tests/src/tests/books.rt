@@ -3,8 +3,8 @@ ghost use Rattle.std.specs.Prelude.{◌≡◌};
 ghost use Rattle.plan.specs.Recipes.{notes_plan};
 ghost use Rattle.book.specs.Rights.{empty_front, IsFresh};
 
-use crate::bases::takes_messages;
-use crate::fronts::{note, takes_one};
+use super::bases::takes_messages;
+use super::fronts::{note, takes_one};
 use book::book::{Book, Opened, Rights};
 use book::cut::{Cut, Cuts};
 use book::front::Front;

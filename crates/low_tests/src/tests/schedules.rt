@@ -1,5 +1,5 @@
 //! What schedules are made of, for the built-in plan: queues, places, arguments and a session.
-use crate::fronts::note;
+use super::fronts::note;
 use model::entry::Entry;
 use model::lengths::Lengths;
 use packet::edges::Edges;

@@ -4,8 +4,8 @@ ghost use Rattle.row.specs.Cells.{Cells, int};
 ghost use Rattle.row.specs.Changes.{IsCovered};
 ghost use Rattle.row.specs.Groups.{wide};
 
-use crate::cells::Cell::{self, Int, Text};
-use crate::cells::{row, value};
+use super::cells::Cell::{self, Int, Text};
+use super::cells::{row, value};
 use row::bag::Bag;
 use row::grouped::Grouped;
 use row::record::{Record, Sign};

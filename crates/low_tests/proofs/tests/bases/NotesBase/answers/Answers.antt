@@ -1,7 +1,7 @@
 use Rattle.std.proofs.Common.{sym, subst}
 use Rattle.base_domain.specs.Codes.{message_of}
 use Rattle.base_domain.specs.Received.{IsFor}
-use Rattle.low_tests.proofs.bases.NotesBase.answers.Goals as goal
+use Rattle.low_tests.proofs.tests.bases.NotesBase.answers.Goals as goal
 
 pub receive-requires-clause-of : goal.receive-requires-clause-of
 receive-requires-clause-of g c =

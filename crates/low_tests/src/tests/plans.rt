@@ -1,6 +1,6 @@
 //! The texts of the built-in plan's places, and which values a column takes.
-use crate::cells::Cell::{self, Int, Text};
-use crate::cells::value;
+use super::cells::Cell::{self, Int, Text};
+use super::cells::value;
 use plan::domain::{DomainId, Edge};
 use plan::kinds::Kind;
 use plan::plan::Plan;

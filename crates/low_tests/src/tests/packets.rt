@@ -1,6 +1,6 @@
 //! Records that are split by the shard of a column, and an outbox with room.
-use crate::cells::Cell::Int;
-use crate::cells::row;
+use super::cells::Cell::Int;
+use super::cells::row;
 use model::fronts::Fronts;
 use model::list::ListFront;
 use packet::outbox::Outbox;

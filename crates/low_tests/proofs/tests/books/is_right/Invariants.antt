@@ -1,4 +1,4 @@
-use Rattle.low_tests.proofs.books.is_right.Given as goal
+use Rattle.low_tests.proofs.tests.books.is_right.Given as goal
 
 -- the book that was just opened
 abbrev pub ghosts-run : goal.ghosts-run

@@ -6,7 +6,7 @@ ghost use Rattle.model.specs.Fronts.{LogView};
 ghost use Rattle.base_domain.specs.Codes.{message_of};
 ghost use Rattle.base_domain.specs.Received.{IsFor};
 
-use crate::fronts::note;
+use super::fronts::note;
 use base_domain::base_domain::BaseDomain;
 use base_domain::message::{ToBase, Write};
 use model::entry::Entry;

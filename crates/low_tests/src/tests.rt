@@ -1,0 +1,10 @@
+//! The tests.
+mod bases;
+mod books;
+mod cells;
+mod edges;
+mod fronts;
+mod packets;
+mod plans;
+mod rows;
+mod schedules;
