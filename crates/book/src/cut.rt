@@ -111,11 +111,7 @@ impl<J: Naming> Cuts<J> {
         ensures seen { IsPrefix self.old.seen self.new.seen }
         ensures others { IsPrefix cut.seen self.new.seen }
     {
-        let Cut {
-            lengths,
-            seen,
-            of: _,
-        } = cut;
+        let Cut { lengths, seen, .. } = cut;
         learn::<J>(&mut self.seen, &seen);
         self.floors.set(view, shard, lengths);
     }

@@ -1,5 +1,6 @@
 //! The right to open a shown copy.
 ghost use Rattle.std.specs.Prelude.{◌≡◌};
+
 use crate::law::Naming;
 use std::marker::{Model, PhantomData};
 
