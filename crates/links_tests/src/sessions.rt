@@ -27,7 +27,8 @@ fn a_mailbox_gives_replies(rt: HostRuntime) -> Result<(), Fail> {
     Ok(())
 }
 
-/// How often a thread lets others go on, so that they come to their waits.
+/// How often a thread lets others go on, so that they come to their waits. Who waits is the first
+/// of two that are joined: where no thread can be made, the second runs before it.
 pub const YIELDS: u32 = 2_000;
 
 pub fn lets_others_go_on() {
@@ -44,8 +45,7 @@ fn waits_for_a_reply<R: Threads + Wait + Sync>(rt: &R, stops: &Stops) -> bool {
         mailbox.alarm(rt);
         mailbox.send(rt, 7u64);
     };
-    let (_, reply) = thread::join(rt, sends, || mailbox.wait(rt, stops, 0));
-    reply == Some(7)
+    thread::join(rt, || mailbox.wait(rt, stops, 0), sends).0 == Some(7)
 }
 
 // The sender stops while this thread waits; the stop of another domain does not end the wait.
@@ -59,7 +59,7 @@ fn waits_for_a_stop<R: Threads + Wait + Sync>(rt: &R, stops: &Stops) -> bool {
         mailbox.alarm(rt);
     };
     let wait = || mailbox.wait(rt, stops, 1).is_none() && stops.has(1);
-    thread::join(rt, stop, wait).1
+    thread::join(rt, wait, stop).0
 }
 
 #[test]
@@ -122,7 +122,7 @@ fn sleeps_on<R: Threads + Wait + Sync>(rt: &R, bell: &Bell, woke: &AtomicBool) -
         woke.store(true, Ordering::SeqCst);
         woken == Woken::Rung
     };
-    let (late, rung) = thread::join(rt, rings, waits);
+    let (rung, late) = thread::join(rt, waits, rings);
     late && rung
 }
 
@@ -137,7 +137,7 @@ fn is_alarmed<R: Threads + Wait + Sync>(rt: &R, bell: &Bell) -> bool {
         lets_others_go_on();
         bell.alarm(rt);
     };
-    thread::join(rt, alarm, || bell.wait(rt, 1) == Woken::Alarmed).1
+    thread::join(rt, || bell.wait(rt, 1) == Woken::Alarmed, alarm).0
 }
 
 #[test]

@@ -63,7 +63,7 @@ fn moves_all<R: Threads + Wait + Sync>(
 ) -> Result<(u64, u64), Refused>
     requires { length queues.old ≡ inbox.now }
 {
-    let (sent, taken) = thread::join(rt, || sends_all(rt, inbox), || takes_all(rt, inbox, queues));
+    let (taken, sent) = thread::join(rt, || takes_all(rt, inbox, queues), || sends_all(rt, inbox));
     sent?;
     Ok(taken)
 }
@@ -84,7 +84,7 @@ fn is_woken<R: Threads + Wait + Sync>(rt: &R, inbox: &Inbox<u64>, queues: &mut Q
         inbox.close(rt);
     };
     let take = || inbox.take_all(rt, queues) == Taking::Closed;
-    thread::join(rt, close, take).1
+    thread::join(rt, take, close).0
 }
 
 #[test]
