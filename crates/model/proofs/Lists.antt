@@ -1,6 +1,6 @@
 -- Lists: what holds of each element, one more element, and a part of each.
-use Rattle.std.proofs.Common.{◌≡◌, ℕ, zero, suc, ◌+◌, ◌<◌, ◌≤◌, List, [], ◌∷◌, ◌++◌, map, length, take, get_or, slice_index_or, refl, ap, arith, subst, sym, ◌⊎◌, inl, inr}
-use Rattle.std.proofs.lemmas.List.{take_more, take_all, map-append}
+use Rattle.std.proofs.Common.{◌≡◌, ℕ, zero, suc, ◌+◌, ◌<◌, ◌≤◌, List, [], ◌∷◌, ◌++◌, map, length, take, get_or, slice_index_or, slice_set, refl, ap, ◌∙◌, arith, subst, sym, ◌⊎◌, inl, inr}
+use Rattle.std.proofs.lemmas.List.{take_more, take_all, map-append, map-set, length-map}
 use Rattle.row.specs.Bags.{Each}
 
 pub each_push : {X : Type 0} (P : X → Type 0) (xs : List X) (y : X) → Each P xs → P y → Each P (xs ++ y ∷ [])
@@ -12,6 +12,13 @@ pub read_map : {A B : Type 0} (f : A → B) (l : List A) (i : ℕ) (x : A) (d : 
 read_map f [] i x d lt is = absurd (omega arith)
 read_map f (y ∷ l) zero x d lt is = ap f is
 read_map f (y ∷ l) (suc i) x d lt is = read_map f l i x d (omega arith) is
+
+-- of a list whose elements each have a list, with an item of one of these set
+pub set_in : {A B : Type 0} (f : A → List B) (l : List A) (i j : ℕ) (b : B) (x y : A) → i < length (map f l) → x ≡ slice_index_or l i x → f y ≡ slice_set (f x) j b
+    → map f (slice_set l i y) ≡ slice_set (map f l) i (slice_set (slice_index_or (map f l) i []) j b)
+set_in f l i j b x y lt is set =
+    map-set f l i y
+    ∙ ap (λ r. slice_set (map f l) i r) (set ∙ ap (λ r. slice_set r j b) (read_map f l i x [] (omega (arith, lt, length-map l f)) is))
 
 -- at a place
 pub each_at : {X : Type 0} (P : X → Type 0) (xs : List X) (i : ℕ) (d : X) → Each P xs → i < length xs → P (get_or xs i d)

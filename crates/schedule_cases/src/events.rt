@@ -1,12 +1,10 @@
 //! An event, as a line of a schedule says it.
+use cases::words::{cell_of, kind_at, row_of, words_of};
 use model::entry::Entry;
 use plan::kinds::Kind;
 use plan::plan::Plan;
-use row::row::Row;
 use row::value::Value;
 use schedule::event::Event;
-use script::cell::value_of;
-use script::words::{LineError, words};
 use std::alloc::{AllocError, Global};
 
 /// The event of a line, if it is one.
@@ -86,35 +84,18 @@ fn number(word: &str) -> Option<usize> {
     word.parse::<usize>().ok()
 }
 
-fn words_of(alloc: Global, line: &str) -> Result<Vec<String>, AllocError> {
-    match words(alloc, line.as_bytes()) {
-        Ok(words) => Ok(words),
-        Err(LineError::NoMemory) => Err(AllocError),
-        Err(LineError::BadLine) => Ok(Vec::new(alloc)),
-    }
-}
-
 // The entry of `S insert TABLE CELL..`, `S update TABLE CELL..` or `S delete TABLE KEY`.
 fn entry_of(alloc: Global, plan: &Plan, words: &[String]) -> Result<Option<Entry>, AllocError> {
     let table = plan.table_named(text(words, 2)).unwrap_or(0);
     match (text(words, 1), words.len()) {
-        ("insert", 4..) => Ok(Some(Entry::Insert(row_of(alloc, plan, table, words)?))),
-        ("update", 4..) => Ok(Some(Entry::Update(row_of(alloc, plan, table, words)?))),
+        ("insert", 4..) => Ok(Some(Entry::Insert(row_of(alloc, plan, table, &words[3..])?))),
+        ("update", 4..) => Ok(Some(Entry::Update(row_of(alloc, plan, table, &words[3..])?))),
         ("delete", 4) => {
             let kind = kind_at(plan, table, key_column(plan, table));
             Ok(Some(Entry::Delete(cell_of(alloc, kind, text(words, 3))?)))
         }
         _ => Ok(None),
     }
-}
-
-fn row_of(alloc: Global, plan: &Plan, table: usize, words: &[String]) -> Result<Row, AllocError> {
-    let mut cells = Vec::new(alloc);
-    for word in words.iter().skip(3) {
-        let kind = kind_at(plan, table, cells.len());
-        cells.push(cell_of(alloc, kind, word.as_str())?)?;
-    }
-    Ok(Row::new(cells))
 }
 
 fn key_column(plan: &Plan, table: usize) -> usize {
@@ -133,17 +114,5 @@ fn key_of(alloc: Global, plan: &Plan, view: &str, word: &str) -> Result<Value, A
         cell_of(alloc, kind, word)
     } else {
         cell_of(alloc, Kind::Int, word)
-    }
-}
-
-fn cell_of(alloc: Global, kind: Kind, word: &str) -> Result<Value, AllocError> {
-    value_of(alloc, kind, String::from_str(alloc, word)?)
-}
-
-fn kind_at(plan: &Plan, table: usize, column: usize) -> Kind {
-    if table < plan.tables() {
-        plan.table(table).kind(column).unwrap_or(Kind::Text)
-    } else {
-        Kind::Text
     }
 }

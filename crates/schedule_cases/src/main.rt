@@ -8,9 +8,8 @@ mod replies;
 
 use crate::events::event_of;
 use crate::replies::write_reply;
+use cases::case::{Answers, Case, write_cases};
 use plan::plan::Plan;
-use recipe::error::PlanError;
-use recipe::recipe::from_toml;
 use row::refused::Refused;
 use schedule::event::{Event, Reply};
 use std::alloc::{AllocError, Global};
@@ -19,41 +18,23 @@ use world::world::replay;
 
 fn main(rt: HostRuntime) -> io::Result<()> {
     let text = io::read_to_string(rt.alloc(), rt.stdin())?;
-    let mut out = rt.stdout();
-    for case in text.split("\n== ").skip(1) {
-        if let Some((name, body)) = case.split_once('\n') {
-            writeln!(out, "== {name}")?;
-            write_case(rt.alloc(), body, &mut out)?;
-        }
-    }
-    Ok(())
+    write_cases::<Schedules, _>(rt.alloc(), &text, &mut rt.stdout())
 }
 
-fn write_case<W: Write>(alloc: Global, body: &str, out: &mut W) -> io::Result<()> {
-    let mut parts = body.split("\n? ");
-    let recipe = parts.next().unwrap_or("");
-    let plan = match from_toml(alloc, recipe) {
-        Ok(plan) => plan,
-        Err(error) => return write_fault(error, out),
-    };
-    let mut events = Vec::new(alloc);
-    for line in parts {
-        match event_of(alloc, &plan, line.trim_end())? {
-            Some(event) => events.push(event)?,
-            None => return writeln!(out, "no event: {line}"),
-        }
-    }
-    write_replies(alloc, &plan, &events, out)
-}
+/// The reply to each event of a schedule.
+struct Schedules;
 
-// Prints why a recipe is of no plan. Want of memory is no such reason.
-fn write_fault<W: Write>(error: PlanError, out: &mut W) -> io::Result<()> {
-    if let PlanError::NoMemory = error {
-        return Err(io::Error::from(AllocError));
+impl Answers for Schedules {
+    fn write<'t, W: Write>(alloc: Global, case: &Case<'t>, out: &mut W) -> io::Result<()> {
+        let mut events = Vec::new(alloc);
+        for line in &case.questions {
+            match event_of(alloc, &case.plan, line)? {
+                Some(event) => events.push(event)?,
+                None => return writeln!(out, "no event: {line}"),
+            }
+        }
+        write_replies(alloc, &case.plan, &events, out)
     }
-    write!(out, "recipe refused {}", error.number())?;
-    write!(out, " {}", error.name())?;
-    writeln!(out, ": {error}")
 }
 
 fn write_replies<W: Write>(
