@@ -120,6 +120,7 @@ set_later (l ∷ cut) (suc s) line g (suc i) j = set_later cut s line g i j
 
 -- ---- the whole of it
 module _ (old new : Domain) (x : Snapshot) (change : ShownView) (shows : Shows old x) (told : IsShown old (Some change) new) where
+  -- what is shown goes on
   pub told_later : IsLater x (after x change)
   told_later = record { view = refl; shard = refl; cut = rw shows.lengths (rw (put_sizes change.stage change.line (lines_of old.cut)) (by change.line told.line)) }
     where
@@ -127,6 +128,7 @@ module _ (old new : Domain) (x : Snapshot) (change : ShownView) (shows : Shows o
       by None next = at_most_self (lines_of old.cut)
       by (Some line) next = set_later (lines_of old.cut) change.stage (entries_of line) next.grows
 
+  -- the copy then shows what is held
   pub shows_after : new.view ≡ old.view → new.shard ≡ old.shard → Shows new (after x change)
   shows_after view shard = record {
     view = shows.view ∙ sym view;
@@ -138,24 +140,25 @@ module _ (old new : Domain) (x : Snapshot) (change : ShownView) (shows : Shows o
   }
 
 -- ---- the step
--- a step leaves of which shard of a view of which plan it is
-pub record IsSame (v w : View) : Type 0 where
-  pub plan : w.plan ≡ v.plan
-  pub view : w.view ≡ v.view
-  pub shard : w.shard ≡ v.shard
+-- it is of the same shard of the same view of a plan
+abbrev pub IsSame : View → View → Type 0
+IsSame v w = (w.plan ≡ v.plan) × (w.view ≡ v.view) × (w.shard ≡ v.shard)
 
+-- a step leaves of which shard it is
 pub step_stays : (v : View) (m : ToView) → IsSame v (step v m).view
-step_stays v (packet s x) = record { plan = refl; view = refl; shard = refl }
-step_stays v (order k) = record { plan = refl; view = refl; shard = refl }
+step_stays v (packet s x) = (refl, refl, refl)
+step_stays v (order k) = (refl, refl, refl)
 step_stays v (want k) = by (is_hole (v.keys.at k))
   where
     by : (b : Bool) → IsSame v (cond b (begins v k) (quiet v v.keys)).view
-    by true = record { plan = refl; view = refl; shard = refl }
-    by false = record { plan = refl; view = refl; shard = refl }
+    by true = (refl, refl, refl)
+    by false = (refl, refl, refl)
 
+-- what runs is not broken
 pub sound : (m : Mode) → m ≡ Running → m ≢ Broken
 sound m running broken = let e : Running ≡ Broken = sym running ∙ broken in cc
 
+-- what is taken out of an outbox is what was told
 pub told_of : (old new : Domain) (shown told : Option ShownView) (change : ShownView) → told ≡ shown → told ≡ Some change → IsShown old shown new → IsShown old (Some change) new
 told_of old new shown told change is one h = subst (λ o. IsShown old o new) (sym is ∙ one) h
 
