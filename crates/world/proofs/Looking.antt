@@ -1,5 +1,5 @@
 -- What a look at a key of a view shard finds, and what it makes of the session.
-use Rattle.std.proofs.Common.{true, false, cond, Bool, ◌≡◌, ℕ, zero, suc, ◌<◌, List, [], ◌∷◌, map, length, Option, Some, None, is_some, slice_get, slice_set, refl, ap, sym, ◌∙◌, subst, arith}
+use Rattle.std.proofs.Common.{true, false, cond, Bool, ◌≡◌, ℕ, ◌<◌, List, map, length, Option, Some, None, is_some, slice_get, slice_set, refl, ap, sym, ◌∙◌, subst}
 use Rattle.std.specs.Option.{IfSome}
 use Rattle.row.specs.Cells.{Datum, Cells, datum_of}
 use Rattle.row.specs.Groups.{equal}

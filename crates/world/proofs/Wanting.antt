@@ -11,7 +11,6 @@ use Rattle.model.specs.Refusals.{read_refusal}
 use Rattle.partial.specs.States.{is_filled}
 use Rattle.protocol.specs.Events.{Reply, refused, wanted}
 use Rattle.protocol.specs.Views as view
-use Rattle.protocol.specs.Views.{View}
 use Rattle.protocol.specs.Worlds.{World}
 use Rattle.protocol.specs.WorldSteps.{Did, says, reader_of, want_by, want_in, wanted_at, view_takes, is_up, lower_run}
 use Rattle.protocol.proofs.Lists.{map_get}
