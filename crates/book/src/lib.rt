@@ -10,4 +10,3 @@ pub mod part;
 pub mod reply;
 pub mod session;
 mod step;
-pub mod view_copy;

@@ -11,7 +11,7 @@ ghost use Rattle.model.specs.Entries.{change_of};
 ghost use Rattle.model.specs.Logs.{Change, rows_of};
 
 use crate::message::{Declined, Reply, Write};
-use crate::told::BasePacket;
+use crate::packet::BasePacket;
 use base::shard::BaseShard;
 use book::book::Book;
 use book::front::Front;

@@ -3,4 +3,4 @@
 
 pub mod base_domain;
 pub mod message;
-pub mod told;
+pub mod packet;

@@ -7,7 +7,7 @@ use crate::queue::{Mailbox, PutError, Queue};
 use book::book::Book;
 use book::law::Naming;
 use domain::message::{Reply, Write};
-use domain::told::BasePacket;
+use domain::packet::BasePacket;
 use model::places;
 use plan::plan::Plan;
 use row::refused::Refused;

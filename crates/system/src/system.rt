@@ -106,7 +106,6 @@ impl<J: Naming + Send + Sync + 'static> System<J> {
             start,
             logs,
             words,
-            ..
         } = opened.named::<J>(alloc, &plan)?;
         let mut writer = writer::open(rt, alloc, &plan, 0, 0, &start, sessions + 1)?;
         let reader = writer.reader()?;

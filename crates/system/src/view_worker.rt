@@ -7,7 +7,7 @@ ghost use Rattle.view.specs.Boards.{pending, shown};
 use crate::shared::{Ack, Shared, ToView};
 use book::cut::Cut;
 use book::law::Naming;
-use domain::told::BasePacket;
+use domain::packet::BasePacket;
 use row::refused::Refused;
 use std::alloc::Global;
 use std::mem;

@@ -11,7 +11,7 @@ use book::law::Naming;
 use book::log::Log;
 use domain::base_domain::{BaseDomain, Outcome};
 use domain::message::Write;
-use domain::told::BasePacket;
+use domain::packet::BasePacket;
 use plan::plan::Plan;
 use row::record::Sign;
 use row::refused::Refused;

@@ -73,7 +73,6 @@ fn run<J: Naming>(
         start,
         mut logs,
         mut words,
-        ..
     } = opened.named::<J>(alloc, plan)?;
     if logs.len() != 1 || words.len() != 1 {
         return Ok(false);
