@@ -76,13 +76,6 @@ impl<F: Fronts> ShownChange<F> {
         })
     }
 
-    /// What becomes of keys, in order.
-    pub fn keys(&self) -> &[KeyChange]
-        ensures { result.now ≡ self.now.keys }
-    {
-        &self.keys
-    }
-
     /// The stage shard and its new line, what becomes of keys, and the count of requests, moved out
     /// of it.
     pub fn into_parts(self) -> (usize, Option<Line<F>>, Vec<KeyChange>, u64)

@@ -1,11 +1,13 @@
 -- A shown copy after a change that leads from what was held to what is held.
-use Rattle.std.proofs.Common.{◌≡◌, ◌≢◌, ◌≤◌, ℕ, zero, suc, Bool, true, false, cond, if◌then◌else◌, not, List, [], ◌∷◌, Option, Some, None, IfSome, fold, filter, map, length, slice_get, slice_set, slice_index_or, refl, ap, sym, ◌∙◌, subst, arith}
+use Rattle.std.proofs.Common.{◌≡◌, ◌≢◌, ◌≤◌, ℕ, zero, suc, Bool, true, false, cond, if◌then◌else◌, not, List, [], ◌∷◌, Option, Some, None, IfSome, fold, filter, map, length, slice_get, slice_set, slice_index_or, refl, ap, sym, ◌∙◌, subst, arith, ◌⊎◌, inl, inr}
 use Rattle.std.specs.Map.{lookup}
 use Rattle.std.specs.Option.{option_map}
 use Rattle.row.specs.BagChanges.{with_records}
 use Rattle.row.specs.Cells.{Datum, Cells, datum_of, same}
 use Rattle.row.specs.Groups.{equal}
 use Rattle.row.specs.declared.record.Record.{Record}
+use Rattle.row.specs.declared.refused.Refused.{Refused}
+use Rattle.row.specs.declared.refused.Refused.TheVariants.{NoMemory, Gap}
 use Rattle.row.specs.declared.value.Value.{Value}
 use Rattle.row.proofs.Cellwise.{eq-value_is}
 use Rattle.row.proofs.Keys.{same_flip}
@@ -25,14 +27,14 @@ use Rattle.protocol.specs.Views.{View, ToView, packet, want, order}
 use Rattle.protocol.specs.ViewSteps.{step, begins, quiet}
 use Rattle.protocol.specs.WorldSteps.{lengths_of}
 use Rattle.shown.specs.Snapshots.{Rows, Snapshot, IsLater, IsTrue, after, lengths_with, shown_at, turned, with_change, without}
-use Rattle.view_domain.specs.Domains.{Domain, lines_of}
-use Rattle.view_domain.specs.Outboxes.{ShownView, put_line}
-use Rattle.view_domain.specs.Received.{AreAnswers, IsNextLine, IsShown}
+use Rattle.view_domain.specs.Domains.{Domain, lines_of, stopped}
+use Rattle.view_domain.specs.Outboxes.{OutboxView, ShownView, put_line}
+use Rattle.view_domain.specs.Received.{AreAnswers, Fails, IsNext, IsNextLine, IsShown}
 use Rattle.view_domain.specs.Shown.{key_in, rows_at, shown_after}
 use Rattle.view_domain.specs.Shown.{turned as turned_by}
 use Rattle.view_domain.specs.declared.shown.KeyChange.{KeyChange}
 use Rattle.view_domain.specs.declared.shown.KeyChange.TheVariants.{Fills, Turns, Goes}
-use Rattle.workers.specs.ViewTurns.{Shows}
+use Rattle.workers.specs.ViewTurns.{IsUntaken, Shows}
 
 -- ---- keys
 without_same : (k d : Datum) (rows : Rows) → same k d ≡ true → shown_at (without d rows) k ≡ None
@@ -157,6 +159,17 @@ step_stays v (want k) = by (is_hole (v.keys.at k))
 -- what runs is not broken
 pub sound : (m : Mode) → m ≡ Running → m ≢ Broken
 sound m running broken = let e : Running ≡ Broken = sym running ∙ broken in cc
+
+-- a domain that fails does not run
+pub untaken : (m : ToView) (old new : Domain) (e : Refused) (out : OutboxView) → Fails m old e out new → IsUntaken m old e new
+untaken m old new e out f = by f.why
+  where
+    apart : (b : Mode) → b ≡ Broken → b ≢ Running
+    apart b broken running = let e : Running ≡ Broken = sym running ∙ broken in cc
+
+    by : ((e ≡ Gap) × (IsNext old m → ⊥) × (new ≡ stopped old)) ⊎ ((e ≡ NoMemory) × IsNext old m × (new.mode ≡ Broken)) → IsUntaken m old e new
+    by (inl gap) = inl gap
+    by (inr none) = inr (none.0, none.1, apart new.mode none.2)
 
 -- what is taken out of an outbox is what was told
 pub told_of : (old new : Domain) (shown told : Option ShownView) (change : ShownView) → told ≡ shown → told ≡ Some change → IsShown old shown new → IsShown old (Some change) new

@@ -1,6 +1,8 @@
 -- What becomes of one message to a view shard.
-use Rattle.std.specs.Prelude.{◌≡◌}
+use Rattle.std.specs.Prelude.{◌≡◌, ◌≢◌, ◌⊎◌, None}
 use Rattle.row.specs.Cells.{datum_of}
+use Rattle.row.specs.declared.refused.Refused.{Refused}
+use Rattle.row.specs.declared.refused.Refused.TheVariants.{NoMemory, Gap}
 use Rattle.row.specs.declared.value.Value.{Value}
 use Rattle.model.specs.Fronts.{LogView}
 use Rattle.packet.specs.Codes.{marks_in}
@@ -10,8 +12,9 @@ use Rattle.protocol.specs.Views.{ToView}
 use Rattle.protocol.specs.ViewSteps.{step}
 use Rattle.protocol.specs.WorldSteps.{lengths_of}
 use Rattle.shown.specs.Snapshots.{Snapshot, shown_at}
-use Rattle.view_domain.specs.Domains.{Domain, lines_of, view_of}
+use Rattle.view_domain.specs.Domains.{Domain, lines_of, stopped, view_of}
 use Rattle.view_domain.specs.Outboxes.{OutboxView}
+use Rattle.view_domain.specs.Received.{IsNext}
 use Rattle.view_domain.specs.Shown.{rows_at}
 
 -- two fronts are of one log
@@ -27,9 +30,15 @@ pub record Shows (d : Domain) (s : Snapshot) : Type 0 where
   pub rows : (k : Value) → shown_at s.rows (datum_of k) ≡ rows_at d.kept k
   pub asked : s.asked ≡ d.asked
 
--- the domain did the protocol's step, and what that puts out is in the outbox
+-- the message was in turn, the domain did the protocol's step, and what that puts out is in the outbox, but for what was told of shown keys
 pub record IsTaken (m : ToView) (old : Domain) (out : OutboxView) (new : Domain) : Type 0 where
+  pub next : IsNext old m
   pub view : view_of new ≡ (step (view_of old) m).view
   pub requests : packets_on out.requests ≡ (step (view_of old) m).requests
   pub acks : marks_in out.ack ≡ (step (view_of old) m).acks
+  pub told : out.shown ≡ None
   pub running : new.mode ≡ Running
+
+-- a packet out of turn, and all else is as it was; or want of memory. It does not run
+abbrev pub IsUntaken : ToView → Domain → Refused → Domain → Type 0
+IsUntaken m old e new = ((e ≡ Gap) × (IsNext old m → ⊥) × (new ≡ stopped old)) ⊎ ((e ≡ NoMemory) × IsNext old m × (new.mode ≢ Running))

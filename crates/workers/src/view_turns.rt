@@ -1,10 +1,10 @@
 //! The turns of a view shard.
-ghost use Rattle.std.specs.Prelude.{◌≡◌, ◌≢◌, [], length, OnOk, OnErr};
+ghost use Rattle.std.specs.Prelude.{◌≡◌, ◌≢◌, [], length, IfErr, IsErrAnd, OnOk, OnErr};
 ghost use Rattle.packet.specs.declared.mode.Mode.TheVariants.{Running};
 ghost use Rattle.shown.specs.Boards.{pending, shown};
 ghost use Rattle.view_domain.specs.Codes.{message_of, Meets};
 ghost use Rattle.view_domain.specs.Outboxes.{IsClear};
-ghost use Rattle.workers.specs.ViewTurns.{are_one, IsTaken, Shows};
+ghost use Rattle.workers.specs.ViewTurns.{are_one, IsTaken, IsUntaken, Shows};
 
 use book::front::Front;
 use book::law::Naming;
@@ -21,10 +21,12 @@ use view_domain::view_domain::ViewDomain;
 ///
 /// With `Ok` the domain did the step of the protocol, its requests and its acknowledgement are in the
 /// outbox, and the copy shows just the keys that it holds filled, with their rows, over its cut.
-/// Errors: those of `ViewDomain::receive`, and `NoMemory` where the copy was refused memory; then
-/// the domain has stopped, the copy shows what it showed, and what is in the outbox is not to be
-/// sent. Cost: that of the message and of its change of the copy, which waits for readers that still
-/// look at the copy behind.
+/// Errors: `Gap` just where a packet does not start at the line that is held of its stage shard, and
+/// the domain has then stopped, with all else as it was; `NoMemory`, also where the copy was refused
+/// memory, and then the domain does not run; `Stopped` where it did not run, and nothing changes.
+/// After an error the copy shows what it showed, and what is in the outbox is not to be sent. Cost:
+/// that of the message and of its change of the copy, which waits for readers that still look at the
+/// copy behind.
 pub fn take_view<J: Naming, R: Wait + Drop>(
     alloc: Global,
     domain: &mut ViewDomain<Front<J>>,
@@ -41,7 +43,12 @@ pub fn take_view<J: Naming, R: Wait + Drop>(
     ensures done { OnOk result (IsTaken (message_of message) domain.old out.new domain.new) }
     ensures shows { OnOk result (Shows domain.new (shown writer.new)) }
     ensures idle { OnOk result (pending writer.new ≡ []) }
+    ensures plan { OnOk result (domain.new.plan ≡ J.plan) }
     ensures stays { OnErr result (shown writer.new ≡ shown writer.old) }
+    ensures not { domain.old.mode ≢ Running → IsErrAnd result (λ e. (e ≡ Refused.Stopped)
+        × (domain.new ≡ domain.old)) }
+    ensures refused { domain.old.mode ≡ Running → IfErr result (λ e. IsUntaken
+        (message_of message) domain.old e domain.new) }
     ensures stopped { OnErr result (domain.new.mode ≢ Running) }
     ensures edges { length out.new.requests ≡ J.plan.stages }
 {
