@@ -128,28 +128,19 @@ fn tells<'p, F: Fronts>(
 fn stops<'p, F: Fronts>(alloc: Global, notes: &Notes<'p, F>) -> Result<bool, Refused> {
     let mut domain = first_stage(alloc, notes)?;
     domain.stop();
-    refuses(alloc, &mut domain)
-}
-
-// Whether a domain that has stopped refuses a request, and stays so.
-fn refuses<F: Fronts>(alloc: Global, domain: &mut StageDomain<F>) -> Result<bool, Refused>
-    requires plan { domain.old.plan ≡ notes_plan }
-{
-    match put_out(alloc, domain, request()) {
+    match put_out(alloc, &mut domain, request()) {
         Err(Refused::Stopped) => Ok(domain.mode() == Mode::Stopped),
         Err(refused) => Err(refused),
         Ok(_) => Ok(false),
     }
 }
 
-// Whether a packet behind the first note, which has not come, is a gap, which stops it: the next
-// message is refused.
+// Whether a packet behind the first note, which has not come, is a gap, and stops it.
 fn finds_a_gap<'p, F: Fronts>(alloc: Global, notes: &Notes<'p, F>) -> Result<bool, Refused> {
     let message = message(alloc, notes, Told::LaterMarker)?;
     let mut domain = first_stage(alloc, notes)?;
-    let mut out = Edges::new(alloc, 1)?;
-    match domain.receive(alloc, message, &mut out) {
-        Err(Refused::Gap) => refuses(alloc, &mut domain),
+    match put_out(alloc, &mut domain, message) {
+        Err(Refused::Gap) => Ok(domain.mode() == Mode::Stopped),
         Err(refused) => Err(refused),
         Ok(_) => Ok(false),
     }
