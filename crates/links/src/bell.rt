@@ -2,7 +2,9 @@
 ghost use Rattle.std.specs.Prelude.{◌≡◌, not, ◌&&◌, true, false};
 ghost use Rattle.links.specs.Rings.{BellView, later, rang_for};
 
+use crate::look::look;
 use std::marker::Model;
+use std::sync::atomic::{AtomicBool, Ordering};
 use std::sync::{Condvar, Mutex, Wait};
 
 /// Why a session woke.
@@ -73,6 +75,7 @@ impl Heard {
 #[derive(Drop)]
 pub struct Bell {
     heard: Mutex<Heard>,
+    ready: AtomicBool,
     moved: Condvar,
 }
 
@@ -84,6 +87,7 @@ impl Bell {
                 latest: None,
                 alarmed: false,
             }),
+            ready: AtomicBool::new(false),
             moved: Condvar::new(),
         }
     }
@@ -92,6 +96,7 @@ impl Bell {
     /// at once. It takes no memory, and waits for the lock alone.
     pub fn ring<R: Wait>(&self, rt: &R, call: u64) {
         self.heard.lock(rt).ring(call);
+        self.ready.store(true, Ordering::SeqCst);
         self.moved.notify_one();
     }
 
@@ -99,15 +104,19 @@ impl Bell {
     /// session waits for nothing, its next wait tells it, unless that has rung.
     pub fn alarm<R: Wait>(&self, rt: &R) {
         self.heard.lock(rt).alarmed = true;
+        self.ready.store(true, Ordering::SeqCst);
         self.moved.notify_one();
     }
 
     /// Waits until the bell rings for this call, or there is an alarm that was not told. A ring of
-    /// an earlier call counts for none. A session numbers its calls upwards.
+    /// an earlier call counts for none. It looks a few times before it sleeps. A session numbers its
+    /// calls upwards.
     pub fn wait<R: Wait>(&self, rt: &R, call: u64) -> Woken {
+        look(&self.ready);
         let mut heard = self
             .moved
             .wait_while(rt, self.heard.lock(rt), |heard| heard.is_quiet(call));
+        self.ready.store(false, Ordering::SeqCst);
         heard.answer(call)
     }
 }

@@ -3,8 +3,8 @@ ghost use Rattle.std.specs.Prelude.{◌≡◌, ◌⊎◌, ◌<◌, ◌≤◌, le
 ghost use Rattle.links.specs.Queued.{holds_any};
 
 use crate::line::Line;
+use crate::look::look;
 use crate::queues::Queues;
-use crossbeam_utils::Backoff;
 use row::refused::Refused;
 use std::alloc::{AllocError, Global};
 use std::marker::Model;
@@ -140,24 +140,13 @@ impl<T: Drop> Inbox<T> {
         if !taken.is_empty() {
             return Taking::Taken;
         }
-        self.look();
+        look(&self.ready);
         let mut line = self
             .moved
             .wait_while(rt, self.line.lock(rt), |line| line.is_idle());
         let taking = line.give(taken);
         self.ready.store(!line.is_idle(), Ordering::SeqCst);
         taking
-    }
-
-    // Looks until there is something to take, or it is time to sleep. It takes no lock.
-    fn look(&self) {
-        let backoff = Backoff::new();
-        for _ in 0..LOOKS {
-            if self.ready.load(Ordering::SeqCst) || backoff.is_completed() {
-                return;
-            }
-            backoff.snooze();
-        }
     }
 
     /// Closes the inbox: what is in it can be taken, each later put is refused, and the taker wakes.
@@ -173,6 +162,3 @@ impl<T: Drop> Inbox<T> {
         self.ready.store(true, Ordering::SeqCst);
     }
 }
-
-/// More looks than a `Backoff` has rounds.
-const LOOKS: u32 = 16;

@@ -1,6 +1,5 @@
-//! Mailboxes and bells of sessions, the flags of stopped domains, and gates.
+//! Mailboxes and bells of sessions, and the flags of stopped domains.
 use links::bell::{Bell, Woken};
-use links::gate::{Gate, OpenGate};
 use links::mailbox::Mailbox;
 use links::stops::Stops;
 use std::sync::Wait;
@@ -11,13 +10,15 @@ use std::thread::{self, Threads};
 // A reply is taken once; a later one takes its place; one that came before a stop is taken.
 fn gives_replies<R: Wait>(rt: &R, stops: &Stops) -> bool {
     let mailbox = Mailbox::new();
-    mailbox.send(rt, 1u64);
+    mailbox.send(rt, 0u64);
+    let received = mailbox.receive(rt) == Some(0);
+    mailbox.send(rt, 1);
     let first = mailbox.wait(rt, stops, 1) == Some(1);
     mailbox.send(rt, 2);
     mailbox.send(rt, 3);
     stops.mark(1);
     let last = mailbox.wait(rt, stops, 1) == Some(3);
-    first && last && mailbox.wait(rt, stops, 1).is_none()
+    received && first && last && mailbox.wait(rt, stops, 1).is_none()
 }
 
 #[test]
@@ -78,18 +79,6 @@ fn a_stop_stays(rt: HostRuntime) -> Result<(), Fail> {
     stops.mark(3);
     assert!(rt; stops.has(1) && stops.has(1) && !stops.has(0) && !stops.has(3));
     Ok(())
-}
-
-// One turn behind a gate.
-fn turns<G: Gate>(gate: &G, domain: usize, turn: u64) -> u64 {
-    gate.before(domain, turn);
-    gate.after(domain, turn);
-    turn
-}
-
-#[test]
-fn an_open_gate_lets_all_through(rt: HostRuntime) {
-    assert!(rt; turns(&OpenGate, 3, 4) == 4);
 }
 
 // A ring is heard by its call and by earlier ones; an alarm is told once, behind a ring.
