@@ -1,5 +1,5 @@
 -- What a session knows from a reply.
-use Rattle.std.proofs.Common.{◌≡◌, ℕ, zero, suc, ◌+◌, ◌-◌, ◌<◌, ◌≤◌, ◌==◌, nat_le, Bool, true, false, cond, List, [], ◌∷◌, ◌++◌, length, slice_get, take, drop, length-take-le, take-append-drop, Some, refl, ap, sym, ◌∙◌, subst, arith, append_assoc, flat_map, length-append, ◌⊎◌, inl, inr}
+use Rattle.std.proofs.Common.{◌≡◌, ℕ, zero, suc, ◌+◌, ◌-◌, ◌<◌, ◌≤◌, ◌==◌, nat_le, Bool, true, false, cond, List, [], ◌∷◌, ◌++◌, length, slice_get, take, drop, take-append-drop, Some, refl, ap, sym, ◌∙◌, subst, arith, append_assoc, flat_map, length-append, ◌⊎◌, inl, inr}
 use Rattle.std.proofs.lemmas.List.Concat.{flat_map-append}
 use Rattle.std.proofs.lemmas.Bool.Decides.{nat_tests}
 use mathlib.Core.List.{IsPrefix}
@@ -7,12 +7,12 @@ use Rattle.plan.specs.Layouts.{Layout}
 use Rattle.model.specs.Logs.{Change}
 use Rattle.model.specs.Histories.{Item, write, read, fence, Author, log_of, authors_of, entry_in, author_in}
 use Rattle.book.specs.Pages.{Page, history_of}
-use Rattle.book.specs.Fronts.{FrontView, IsFront, IsAppended}
+use Rattle.book.specs.Fronts.{FrontView}
 use Rattle.model.specs.Legal.{IsLegal}
-use Rattle.book.specs.Replies.{IsWritten, IsAfter, HasLogOf, longer}
+use Rattle.book.specs.Replies.{IsAfter, IsPlaced, HasLogOf, longer}
 use Rattle.model.proofs.Prefixes.{prefix_either, prefix_get, prefix_whole, prefix_length, prefix_self}
 use Rattle.book.proofs.Steps.{rest_of, seen_more}
-use Rattle.book.proofs.Fronts.{length_authors}
+use Rattle.book.proofs.Fronts.{front_at, length_authors}
 
 abbrev by : ℕ → ℕ → Author
 by s m = record { session = s; number = m }
@@ -129,19 +129,10 @@ longer_within xs ys zs l m = pick (nat_le (length xs) (length ys))
     pick true = m
     pick false = l
 
-get_end : {A : Type 0} (xs : List A) (x : A) (n : ℕ) → length xs ≡ n → slice_get (xs ++ x ∷ []) n ≡ Some x
-get_end [] x zero e = refl
-get_end [] x (suc n) e = absurd (omega (arith, e))
-get_end (y ∷ xs) x zero e = absurd (omega (arith, e))
-get_end (y ∷ xs) x (suc n) e = get_end xs x n (omega (arith, e))
+-- what stands at a place of a front stands there in its log
+take_get : {A : Type 0} (n k : ℕ) (xs : List A) (x : A) → slice_get (take n xs) k ≡ Some x → slice_get xs k ≡ Some x
+take_get n k xs x at = prefix_get (take n xs) xs k x (drop n xs, take-append-drop n xs) at
 
-end_of : {A : Type 0} (n m : ℕ) (l k : List A) (x : A) → n ≤ length l → take m k ≡ take n l ++ x ∷ [] → slice_get k n ≡ Some x
-end_of n m l k x le is =
-    let at : slice_get (take m k) n ≡ Some x = rw is (get_end (take n l) x n (length-take-le n l le)) in
-    prefix_get (take m k) k n x (drop m k, take-append-drop m k) at
-
-pub written : (p : Layout) (f g : FrontView) (s m : ℕ) (e : Change) → IsFront p f → IsAppended p f s m e g → IsWritten (record { session = s; number = m; base = g.base; index = f.len; entry = e; seen = g.seen })
-written p f g s m e w a = record {
-  entry = end_of f.len g.len (log_of f.base f.seen) (log_of g.base g.seen) e w.len a.entries;
-  author = end_of f.len g.len (authors_of f.base f.seen) (authors_of g.base g.seen) (by s m) (omega (arith, w.len, length_authors f.base f.seen)) a.authors;
-}
+pub placed : (v o w : List Page) (b n k : ℕ) → IsPrefix v w → IsPrefix o w → length (log_of b (history_of v)) ≤ k → IsPlaced (history_of v) (front_at b n o) k (history_of w)
+placed v o w b n k vw ow le s m e at =
+    stands_after v o w s m b k e vw ow le (take_get n k (log_of b (history_of o)) e at.entry) (take_get n k (authors_of b (history_of o)) (by s m) at.author)

@@ -89,6 +89,22 @@ floor_set_shard : (p : Layout) (floors : Floors) (k j i : ℕ) (cut : Lengths) �
 floor_set_shard p floors k j i cut t lt apart =
     rw (get_or-set_same floors k (slice_set (slice_index_or floors k []) j cut) [] (omega (arith, t.views))) (get_or-set_other (slice_index_or floors k []) j i cut [] apart)
 
+-- cuts with one of them set, in a history that goes on from that of each
+pub cuts_set : (p : Layout) (v o w : List Item) (floors : Floors) (k j : ℕ) (cut : Lengths) → AreWithin p (record { floors = floors; seen = v }) → IsWithin p o cut → k < length p.views → j < (view_at p k).shards → IsPrefix v w → IsPrefix o w
+    → AreWithin p (record { floors = with_floor floors k j cut; seen = w })
+cuts_set p v o w floors k j cut a c lk lj vw ow = record {
+  table = table_set p floors k j cut a.table lk;
+  within = λ x i lx li. by x i (later v (floor_at floors x i) vw (a.within x i lx li)) (eqb_tells x k) (eqb_tells i j);
+}
+  where
+    later : (h : List Item) (d : Lengths) → IsPrefix h w → IsWithin p h d → IsWithin p w d
+    later h d hw g = subst (λ (u : List Item). IsWithin p u d) hw.1 (within_later p h hw.0 d g)
+
+    by : (x i : ℕ) → IsWithin p w (floor_at floors x i) → (((x == k) ≡ true) × (x ≡ k)) ⊎ (((x == k) ≡ false) × (x ≢ k)) → (((i == j) ≡ true) × (i ≡ j)) ⊎ (((i == j) ≡ false) × (i ≢ j)) → IsWithin p w (floor_at (with_floor floors k j cut) x i)
+    by x i old (inr e) f = subst (IsWithin p w) (sym (floor_set_view p floors k j x i cut e.1)) old
+    by x i old (inl e) (inl f) = rw (e.1, f.1, floor_set_same p floors k j cut a.table lk lj) (later o cut ow c)
+    by x i old (inl e) (inr f) = rw (e.1, floor_set_shard p floors k j i cut a.table lk f.1) (rw e.1 at old)
+
 floor_more : (p : Layout) (s v j : ℕ) (h w : List Item) (i : Item) → IsAdded p (own_word p s) h i w → floor_of p s v j w ≡ last_or [] (flat_map (floor_in p s v j) h ++ floor_in p s v j i)
 floor_more p s v j h w i a = ap (last_or []) (part_more p (own_word p s) (floor_in p s v j) (floor_blind p s v j) h w i a)
 

@@ -1,14 +1,16 @@
 //! A book whose history stands in words that all threads share.
-ghost use Rattle.std.specs.Prelude.{◌≡◌, ◌+◌, ◌<◌, ◌≤◌, [], ◌∷◌, IfOk, length, map, slice_index_or};
+ghost use Rattle.std.specs.Prelude.{◌≡◌, ◌+◌, ◌<◌, ◌≤◌, ◌++◌, [], ◌∷◌, IfOk, OnOk, length, map, slice_index_or};
 ghost use Rattle.crossbeam_utils.specs.Padded.{padded_value};
 ghost use Rattle.book.specs.Pages.{opens, words_of, word_named};
 ghost use Rattle.book.specs.Rights.{empty_fronts, AreFresh};
 ghost use Rattle.model.specs.Places.{base_count};
+ghost use Rattle.packet.specs.Readers.{readers, readers_of};
 
 use crate::law::{Law, LogPage, Naming};
 use crate::log::Log;
 use crate::part::Part;
 use crate::session::SessionWord;
+use crate::view_copy::ViewCopy;
 use crossbeam_utils::CachePadded;
 use logbook::{Opening, Pens, Seen, Start, Word};
 use model::places::base_count;
@@ -82,7 +84,8 @@ impl<J: Naming> Model for Book<J> {
 }
 
 /// What a book hands out, once: itself, which all share; what was seen at its start; the right to
-/// append to the log of each base shard; and the word of each session.
+/// append to the log of each base shard; the word of each session; and the right to open the shown
+/// copy of each shard of each view.
 #[derive(Drop)]
 pub struct Rights<J: Naming> {
     /// The book.
@@ -93,6 +96,8 @@ pub struct Rights<J: Naming> {
     pub logs: Vec<Log<J>>,
     /// The word of each session, in order.
     pub words: Vec<SessionWord<J>>,
+    /// The right to open each shown copy, view by view.
+    pub copies: Vec<ViewCopy<J>>,
 }
 
 impl Opened {
@@ -113,8 +118,9 @@ impl Opened {
         })
     }
 
-    /// The book under a name, with the log of each base shard and the word of each session. There
-    /// are no others: this is the one place that makes them. Errors: memory only.
+    /// The book under a name, with the log of each base shard, the word of each session and the right
+    /// to open each shown copy. There are no others: this is the one place that makes them. Errors:
+    /// memory only.
     pub fn named<J: Naming>(self, alloc: Global, plan: &Plan) -> Result<Rights<J>, AllocError>
         requires book { self.book ≡ J.book }
         requires plan { (self.plan ≡ J.plan) × (plan.now ≡ J.plan) }
@@ -123,6 +129,7 @@ impl Opened {
         ensures logs { IfOk result (λ r. r.logs.items ≡ empty_fronts (base_count J.plan)) }
         ensures words { IfOk result (λ r. AreFresh 0 r.words.items) }
         ensures count { IfOk result (λ r. length r.words.items ≡ J.sessions) }
+        ensures copies { IfOk result (λ r. r.copies.items ≡ readers J.plan) }
     {
         let Opened {
             words,
@@ -132,6 +139,7 @@ impl Opened {
         } = self;
         let logs = first_logs(alloc, bases, &seen)?;
         let own = first_words(alloc, plan, sessions, &seen)?;
+        let copies = first_copies(alloc, plan)?;
         Ok(Rights {
             book: Book {
                 words,
@@ -142,6 +150,7 @@ impl Opened {
             start: Part::of(&seen),
             logs,
             words: own,
+            copies,
         })
     }
 }
@@ -183,6 +192,32 @@ fn first_words<J: Naming>(
         words.push(SessionWord::first(alloc, plan, number, seen)?)?;
     }
     Ok(words)
+}
+
+// The right to open the shown copy of each shard of each view.
+fn first_copies<J: Naming>(alloc: Global, plan: &Plan) -> Result<Vec<ViewCopy<J>>, AllocError>
+    ensures { IfOk result (λ v. v.items ≡ readers plan.now) }
+{
+    let mut copies = Vec::new(alloc);
+    for view in 0..plan.views() {
+        push_copies(&mut copies, plan, view)?;
+    }
+    Ok(copies)
+}
+
+// Puts the rights for the shards of a view behind the others.
+fn push_copies<J: Naming>(
+    copies: &mut Vec<ViewCopy<J>>,
+    plan: &Plan,
+    view: usize,
+) -> Result<(), AllocError>
+    requires { view < length plan.now.views }
+    ensures { OnOk result (copies.new.items ≡ copies.old.items ++ readers_of plan.now view) }
+{
+    for shard in 0..plan.view(view).shards() {
+        copies.push(ViewCopy::first(view, shard))?;
+    }
+    Ok(())
 }
 
 fn words(

@@ -8,7 +8,8 @@ ghost use Rattle.book.specs.Pages.{IsLogOf, history_of};
 ghost use Rattle.model.specs.Cuts.{IsWithin};
 ghost use Rattle.model.specs.Places.{base_count, sources as sources_of, source_at};
 ghost use Rattle.book.specs.Sessions.{fronts};
-ghost use Rattle.model.specs.Tables.{with_length, with_front, even_floors};
+ghost use Rattle.model.specs.Tables.{even_floors, with_floor, with_front, with_length};
+ghost use Rattle.plan.specs.Layouts.{view_at};
 
 use crate::front::Front;
 use crate::law::{Law, LogPage, Naming};
@@ -90,6 +91,49 @@ impl<J: Naming> Cuts<J> {
             of: PhantomData,
         })
     }
+
+    /// For each shard of each view the cut of no entries. Errors: memory only.
+    pub fn zeros(alloc: Global, plan: &Plan, part: &Part<J>) -> Result<Cuts<J>, AllocError>
+        requires plan { plan.now ≡ J.plan }
+        ensures floors { IfOk result (λ c. c.floors
+            ≡ even_floors J.plan (replicate (length (sources_of J.plan)) 0)) }
+        ensures seen { IfOk result (λ c. IsPrefix part.now c.seen) }
+    {
+        let fronts = no_entries(alloc, plan, part)?;
+        Cuts::even(alloc, plan, part, fronts.as_slice())
+    }
+
+    /// Takes a cut for a shard of a view. The other cuts stay.
+    pub fn set(&mut self, view: usize, shard: usize, cut: Cut<J>)
+        requires view { view < length J.plan.views }
+        requires shard { shard < (view_at J.plan view).shards }
+        ensures floors { self.new.floors ≡ with_floor self.old.floors view shard cut.lengths }
+        ensures seen { IsPrefix self.old.seen self.new.seen }
+        ensures others { IsPrefix cut.seen self.new.seen }
+    {
+        let Cut { lengths, seen, .. } = cut;
+        learn::<J>(&mut self.seen, &seen);
+        self.floors.set(view, shard, lengths);
+    }
+}
+
+// The empty front of each source.
+fn no_entries<J: Naming>(
+    alloc: Global,
+    plan: &Plan,
+    part: &Part<J>,
+) -> Result<Vec<Front<J>>, AllocError>
+    requires plan { plan.now ≡ J.plan }
+    ensures bases { IfOk result (λ v. map (λ (f : FrontView). f.base) v.items
+        ≡ sources_of J.plan) }
+    ensures lens { IfOk result (λ v. map (λ (f : FrontView). f.len) v.items
+        ≡ replicate (length (sources_of J.plan)) 0) }
+{
+    let mut fronts = Vec::new(alloc);
+    for base in &sources(alloc, plan)? {
+        fronts.push(part.front(*base))?;
+    }
+    Ok(fronts)
 }
 
 // The length of each front, and a history in which all of them were reached.
@@ -174,10 +218,7 @@ impl<J: Naming> Cut<J> {
             ≡ replicate J.plan.stages (replicate (length (sources_of J.plan)) 0)) }
         ensures seen { IfOk result (λ c. IsPrefix part.now c.seen) }
     {
-        let mut fronts = Vec::new(alloc);
-        for base in &sources(alloc, plan)? {
-            fronts.push(part.front(*base))?;
-        }
+        let fronts = no_entries(alloc, plan, part)?;
         Cut::even(alloc, plan, part, fronts.as_slice())
     }
 

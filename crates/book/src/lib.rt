@@ -10,3 +10,4 @@ pub mod part;
 pub mod reply;
 pub mod session;
 mod step;
+pub mod view_copy;

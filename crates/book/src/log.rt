@@ -1,5 +1,5 @@
 //! Logs: the right to append.
-ghost use Rattle.std.specs.Prelude.{◌≡◌, ◌<◌, ◌≤◌, [], ◌∷◌, length, IfOk, OnOk, IfErr};
+ghost use Rattle.std.specs.Prelude.{◌≡◌, ◌<◌, ◌≤◌, [], ◌∷◌, length, OnOk, IfErr};
 ghost use mathlib.Core.List.{IsPrefix};
 ghost use Rattle.model.specs.Entries.{change_of};
 ghost use Rattle.model.specs.Histories.{log_of};
@@ -7,14 +7,12 @@ ghost use Rattle.model.specs.Legal.{IsLegal};
 ghost use Rattle.model.specs.Places.{base_count};
 ghost use Rattle.book.specs.Fronts.{entries, authors, IsAppended, IsMoved, MayAppend};
 ghost use Rattle.book.specs.Pages.{opens};
-ghost use Rattle.book.specs.Replies.{IsAccepted};
 ghost use Rattle.book.specs.Rights.{empty_front};
 
 use crate::book::Book;
 use crate::front::Front;
 use crate::law::{Law, LogPage, Naming};
 use crate::part::Part;
-use crate::reply::Written;
 use logbook::Seen;
 use model::entry::Entry;
 use std::marker::Model;
@@ -32,13 +30,6 @@ impl<J: Naming> Model for Log<J> {
     ghost Value = { FrontView };
 
     ghost view = { λ l. l.front };
-}
-
-/// An entry that was not appended, and a front that has seen further on.
-#[derive(Drop)]
-pub struct Unwritten<J: Naming> {
-    pub entry: Entry,
-    pub front: Front<J>,
 }
 
 impl<J: Naming> Log<J> {
@@ -116,30 +107,5 @@ impl<J: Naming> Log<J> {
         };
         self.front = front;
         Ok(())
-    }
-
-    /// Adds an entry at the end of the log, and gives the reply. Errors: where the log has moved;
-    /// then the entry comes back, with a front that has seen so, and this log is as it was.
-    pub fn write(
-        &mut self,
-        book: &Book<J>,
-        session: u64,
-        number: u64,
-        entry: Entry,
-    ) -> Result<Written<J>, Unwritten<J>>
-        requires { MayAppend J.plan self.old session number (change_of entry) }
-        ensures accepted { IfOk result (λ w. IsAccepted J.plan self.old session number
-            (change_of entry) self.new w) }
-        ensures moved { IfErr result (λ u. (self.new ≡ self.old) × IsMoved self.old u.front
-            × (u.entry ≡ entry)) }
-    {
-        let mut front = self.front.again();
-        match front.write(book, session, number, entry) {
-            Ok(written) => {
-                self.front = front;
-                Ok(written)
-            }
-            Err(entry) => Err(Unwritten { entry, front }),
-        }
     }
 }

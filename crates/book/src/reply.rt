@@ -1,98 +1,16 @@
-//! Replies of a base shard, and what a session knows from them.
-ghost use Rattle.std.specs.Prelude.{◌≡◌, ◌+◌, ◌<◌, ◌≤◌, length, MatchBool, IfSome, IsSome, IsTrue, IfOk, IfErr, ℕ, slice_get, Some, true};
+//! What a session knows from the front of a reply.
+ghost use Rattle.std.specs.Prelude.{◌≡◌, ◌<◌, ◌≤◌, length, MatchBool, IfSome, IsSome, IsTrue};
 ghost use mathlib.Core.List.{IsPrefix};
-ghost use Rattle.model.specs.Entries.{change_of};
-ghost use Rattle.book.specs.Fronts.{IsMoved, MayAppend};
-ghost use Rattle.book.specs.Replies.{WrittenView, HasLogOf, IsAccepted, IsNews, IsReplyTo, IsWhole};
+ghost use Rattle.book.specs.Replies.{HasLogOf, IsPlaced, IsWhole};
 
 use crate::book::Book;
 use crate::front::Front;
-use crate::law::{Law, LogPage, Naming};
+use crate::law::Naming;
 use crate::part::Part;
 use crate::step::{learn, look_at};
-use logbook::Seen;
-use model::entry::Entry;
-use std::marker::{Model, PhantomData};
-
-/// The reply to an accepted write.
-#[derive(Drop)]
-pub struct Written<J: Naming> {
-    of: PhantomData<J>,
-    session: u64,
-    number: u64,
-    base: usize,
-    index: u64,
-    entry: Entry,
-    seen: Seen<LogPage, u64, Law>,
-}
-
-impl<J: Naming> Model for Written<J> {
-    ghost use Rattle.std.specs.Prelude.{◌≡◌};
-    ghost use Rattle.book.specs.Pages.{IsLogOf, history_of};
-    ghost use Rattle.model.specs.Entries.{change_of};
-    ghost use Rattle.book.specs.Replies.{WrittenView, IsWritten, written_with};
-
-    ghost Value = { WrittenView };
-
-    ghost view = { λ w. written_with w.session w.number w.base w.index (change_of w.entry)
-        (history_of w.seen.log) };
-
-    ghost invariant = { λ w. (w.seen.book ≡ J.book) × IsLogOf J.plan J.sessions w.seen.log
-        × IsWritten (written_with w.session w.number w.base w.index (change_of w.entry)
-        (history_of w.seen.log)) };
-}
-
-impl<J: Naming> Written<J> {
-    /// Whether it is the reply to this write. Cost: the length of the entry.
-    pub fn is_of(&self, session: u64, number: u64, base: usize, entry: &Entry) -> bool
-        ensures same { IsTrue result
-            → IsReplyTo session number base (change_of entry.now) self.now }
-        ensures sure { IsReplyTo session number base (change_of entry.now) self.now
-            → IsTrue result }
-    {
-        self.session == session
-            && self.number == number
-            && self.base == base
-            && self.entry.is_same(entry)
-    }
-
-    /// The index at which its entry stands.
-    pub fn index(&self) -> u64
-        ensures { result ≡ self.now.index }
-    {
-        self.index
-    }
-}
+use std::marker::PhantomData;
 
 impl<J: Naming> Front<J> {
-    /// Appends, and gives the reply. Errors: where the log has moved; then the entry comes back.
-    pub(crate) fn write(
-        &mut self,
-        book: &Book<J>,
-        session: u64,
-        number: u64,
-        entry: Entry,
-    ) -> Result<Written<J>, Entry>
-        requires { MayAppend J.plan self.old session number (change_of entry) }
-        ensures accepted { IfOk result (λ w. IsAccepted J.plan self.old session number
-            (change_of entry) self.new w) }
-        ensures moved { IfErr result (λ e. IsMoved self.old self.new × (e ≡ entry)) }
-    {
-        let index = self.len;
-        let Ok(()) = self.append(book, session, number, &entry) else {
-            return Err(entry);
-        };
-        Ok(Written {
-            session,
-            number,
-            base: self.base,
-            index,
-            entry,
-            seen: self.seen.again(),
-            of: PhantomData,
-        })
-    }
-
     /// Sees the log as it is, and takes all of it.
     pub fn catch_up(&mut self, book: &Book<J>)
         ensures stays { self.new ≡ record self.old { len = self.new.len; seen = self.new.seen } }
@@ -102,20 +20,21 @@ impl<J: Naming> Front<J> {
         self.len = look_at(book, self.base, &mut self.seen);
     }
 
-    /// Takes the reply to a write that was sent after this front had all that was seen. It is not the
-    /// reply where its place was seen before.
-    pub fn settle(&mut self, reply: &Written<J>) -> bool
+    /// Takes the front that a reply shows, to a write that was sent after this front had all that was
+    /// seen: the entry at the reply's place then stands after all of that. It is not the reply where
+    /// its place was seen before; then this front stays.
+    pub fn settle(&mut self, other: &Front<J>, index: u64) -> bool
         requires whole { IsWhole self.old }
-        requires base { self.old.base ≡ reply.now.base }
+        requires base { self.old.base ≡ other.now.base }
         ensures stays { self.new ≡ record self.old { seen = self.new.seen } }
-        ensures sure { self.old.len ≤ reply.now.index → IsTrue result }
-        ensures told { MatchBool result (IsNews self.old.seen reply.now self.new.seen) (self.new
-            ≡ self.old) }
+        ensures sure { self.old.len ≤ index → IsTrue result }
+        ensures told { MatchBool result (IsPlaced self.old.seen other.now index self.new.seen)
+            (self.new ≡ self.old) }
     {
-        if reply.index < self.len {
+        if index < self.len {
             return false;
         }
-        learn::<J>(&mut self.seen, &reply.seen);
+        learn::<J>(&mut self.seen, &other.seen);
         true
     }
 
