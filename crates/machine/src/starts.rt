@@ -49,7 +49,7 @@ fn first_cut<F: Fronts>(
 {
     let mut cut = Vec::new(alloc);
     for _ in 0..stages {
-        cut.push(line.again(alloc)?)?;
+        cut.push(line.try_clone(alloc)?)?;
     }
     Ok(cut)
 }
@@ -101,7 +101,7 @@ fn new_stages<'p, F: Fronts>(
 {
     let mut stages = Vec::new(alloc);
     for shard in 0..plan.stages() {
-        stages.push(StageDomain::new(alloc, plan, shard, line.again(alloc)?)?)?;
+        stages.push(StageDomain::new(alloc, plan, shard, line.try_clone(alloc)?)?)?;
     }
     Ok(stages)
 }

@@ -1,5 +1,5 @@
 //! The answer to a write.
-ghost use Rattle.std.specs.Prelude.{◌≡◌};
+ghost use Rattle.std.specs.Prelude.{◌≡◌, IsTrue};
 ghost use Rattle.model.specs.Entries.{change_of};
 ghost use Rattle.packet.specs.Answers.{IsAnswer, answer_with};
 
@@ -58,6 +58,22 @@ impl<F: Fronts> Answer<F> {
             index,
             front,
         }
+    }
+
+    /// Whether it is the answer to this write. Cost: the length of the entry.
+    pub fn is_of(&self, session: usize, number: u64, entry: &Entry) -> bool
+        ensures session { IsTrue result → self.now.session ≡ session }
+        ensures number { IsTrue result → self.now.number ≡ number }
+        ensures entry { IsTrue result → self.now.entry ≡ change_of entry.now }
+    {
+        self.session == session && self.number == number && self.entry.is_same(entry)
+    }
+
+    /// The session that is answered.
+    pub fn session(&self) -> usize
+        ensures { result ≡ self.now.session }
+    {
+        self.session
     }
 
     /// Why it was refused, if it was.

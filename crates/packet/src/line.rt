@@ -53,7 +53,7 @@ impl<F: Fronts> Line<F> {
     }
 
     /// A second copy. Errors: memory only. Cost: a copy of each front.
-    pub fn again(&self, alloc: Global) -> Result<Line<F>, AllocError>
+    pub fn try_clone(&self, alloc: Global) -> Result<Line<F>, AllocError>
         ensures { IfOk result (λ l. l ≡ self.now) }
     {
         let mut fronts = Vec::new(alloc);

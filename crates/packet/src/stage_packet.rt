@@ -1,7 +1,7 @@
 //! What a stage shard tells a view shard.
 ghost use Rattle.std.specs.Prelude.{◌≡◌};
 ghost use Rattle.packet.specs.Codes.{stage_packet_of};
-ghost use Rattle.packet.specs.Lines.{AreOf, plan_of};
+ghost use Rattle.packet.specs.Lines.{AreOf, entries_of, plan_of};
 ghost use Rattle.packet.specs.Truth.{IsTrueStage};
 
 use crate::keyed::Keyed;
@@ -70,6 +70,30 @@ impl<F: Fronts> StagePacket<F> {
             to,
             content,
         }
+    }
+
+    /// The stage shard that it comes from.
+    pub fn stage(&self) -> usize
+        ensures { result ≡ self.now.stage }
+    {
+        self.stage
+    }
+
+    /// The shard of a view that it goes to.
+    pub fn reader(&self) -> Reader
+        ensures view { result.view ≡ self.now.view }
+        ensures shard { result.shard ≡ self.now.shard }
+    {
+        self.reader
+    }
+
+    /// The line that it ends at, which has a front of each source of its plan.
+    pub fn to(&self) -> &Line<F>
+        ensures plan { plan_of result.now ≡ self.now.plan }
+        ensures to { entries_of result.now ≡ self.now.to }
+        ensures of { AreOf self.now.plan result.now }
+    {
+        &self.to
     }
 
     /// Its parts, moved out of it.

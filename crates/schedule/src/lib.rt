@@ -8,5 +8,5 @@ mod cuts;
 pub mod event;
 pub mod places;
 pub mod queues;
-mod readers;
+pub mod readers;
 pub mod wire;

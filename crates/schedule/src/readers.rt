@@ -8,7 +8,7 @@ use plan::plan::Plan;
 use std::alloc::{AllocError, Global};
 
 /// The shards of the views, view by view. Errors: memory only.
-pub(crate) fn readers(alloc: Global, plan: &Plan) -> Result<Vec<Reader>, AllocError>
+pub fn readers(alloc: Global, plan: &Plan) -> Result<Vec<Reader>, AllocError>
     ensures { IfOk result (λ v. map reader_in v.items ≡ readers plan.now) }
 {
     let mut out = Vec::new(alloc);
@@ -31,7 +31,7 @@ fn push_readers(out: &mut Vec<Reader>, plan: &Plan, view: usize) -> Result<(), A
 }
 
 /// The place of a shard of a view among these.
-pub(crate) fn place_of(readers: &[Reader], view: usize, shard: usize) -> Option<usize>
+pub fn place_of(readers: &[Reader], view: usize, shard: usize) -> Option<usize>
     ensures { result ≡ position (λ r. is_reader view shard (reader_in r)) readers.now }
 {
     readers

@@ -13,6 +13,7 @@ use crate::shown::Shown;
 use book::front::Front;
 use book::law::Naming;
 use book::part::Part;
+use book::view_copy::ViewCopy;
 use core::mem::replace_with;
 use crossbeam_utils::rule::Protocol;
 use left_right::Absorb;
@@ -40,22 +41,22 @@ impl<T: Absorb<O> + Drop, O: Drop, V, P: Protocol<T, V>, R: Wait + Drop> Drop
 /// The writing end of a shown copy.
 pub type ShownWriter<J, R> = Board<Shown<J>, Delta<J>, Sight, Published, R>;
 
-/// A shown copy of one shard of a view that shows no key, over no entries, with places for so many
-/// readers. Errors: memory only.
+/// The shown copy of a shard of a view, by the one right to it: it shows no key, over no entries, and
+/// has places for so many readers. Errors: memory only.
 pub fn open<J: Naming, R: Wait + Drop>(
     rt: R,
     alloc: Global,
     plan: &Plan,
-    view: usize,
-    shard: usize,
+    copy: ViewCopy<J>,
     part: &Part<J>,
     readers: usize,
 ) -> Result<ShownWriter<J, R>, AllocError>
     requires plan { plan.now ≡ J.plan }
     requires readers { (0 < readers) × (readers < 2 ^ 32) }
-    ensures first { IfOk result (λ w. shown w ≡ first_of J.plan view shard) }
+    ensures first { IfOk result (λ w. shown w ≡ first_of J.plan copy.view copy.shard) }
     ensures pending { IfOk result (λ w. pending w ≡ []) }
 {
+    let (view, shard) = copy.reader();
     let first = Shown::new(alloc, plan, view, shard, part)?;
     let second = Shown::new(alloc, plan, view, shard, part)?;
     let writer = Writer::new(alloc, first, second, readers)?;

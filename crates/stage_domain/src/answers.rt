@@ -85,7 +85,7 @@ fn answer<'p, F: Fronts>(
         marker: None,
     };
     let lengths = line.lengths(alloc)?;
-    Ok(StagePacket::new(stage, reader, lengths, line.again(alloc)?, content))
+    Ok(StagePacket::new(stage, reader, lengths, line.try_clone(alloc)?, content))
 }
 
 /// The view that a tag fills.

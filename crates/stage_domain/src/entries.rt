@@ -94,7 +94,7 @@ fn entry_packets<'p, F: Fronts>(
     let (front, changes, _) = packet.into_parts();
     front.is_log();
     let records = rows.change(alloc, side, changes)?;
-    let mut next = line.again(alloc)?;
+    let mut next = line.try_clone(alloc)?;
     next.set(source, front);
     let told = packets(alloc, plan, stage, line, &next, &records, None)?;
     Ok((next, told))

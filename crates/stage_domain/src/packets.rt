@@ -101,5 +101,5 @@ fn packet_to<F: Fronts>(
         marker,
     };
     let lengths = from.lengths(alloc)?;
-    Ok(StagePacket::new(stage, reader, lengths, to.again(alloc)?, content))
+    Ok(StagePacket::new(stage, reader, lengths, to.try_clone(alloc)?, content))
 }

@@ -88,6 +88,21 @@ impl<'p, F: Fronts> StageDomain<'p, F> {
         })
     }
 
+    /// The stage shard that it is.
+    pub fn shard(&self) -> usize
+        ensures { result ≡ self.now.shard }
+    {
+        self.shard
+    }
+
+    /// The line of fronts that it holds, one of each source of its plan.
+    pub fn line(&self) -> &Line<F>
+        ensures line { result.now ≡ self.now.line }
+        ensures of { AreOf self.now.plan result.now }
+    {
+        &self.line
+    }
+
     /// Whether it runs, has stopped, or is broken.
     pub fn mode(&self) -> Mode
         ensures { result ≡ self.now.mode }

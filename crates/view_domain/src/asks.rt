@@ -115,7 +115,7 @@ fn moved<F: Fronts>(
     ensures { IfOk result (λ o. o ≡ new_line piece.now marker to.now) }
 {
     match (piece, marker) {
-        (None, None) => Ok(Some(to.again(alloc)?)),
+        (None, None) => Ok(Some(to.try_clone(alloc)?)),
         _ => Ok(None),
     }
 }

@@ -7,8 +7,8 @@ use row::bag::Bag;
 use row::row::Row;
 use std::alloc::{AllocError, Global};
 
-/// The bag in memory of its own. Errors: memory only. Cost: a copy of each row.
-pub fn copied(alloc: Global, bag: &Bag) -> Result<Bag, AllocError>
+/// A copy of the bag. Errors: memory only. Cost: a copy of each row.
+pub fn try_clone(alloc: Global, bag: &Bag) -> Result<Bag, AllocError>
     ensures { IfOk result (λ b. b ≡ bag.now) }
 {
     let mut all = Bag::new(alloc);

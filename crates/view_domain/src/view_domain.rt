@@ -121,6 +121,13 @@ impl<'p, F: Fronts> ViewDomain<'p, F> {
         }
     }
 
+    /// The shard of its view that it is.
+    pub fn shard(&self) -> usize
+        ensures { result ≡ self.now.shard }
+    {
+        self.shard
+    }
+
     /// The view that it is a shard of.
     pub fn view(&self) -> usize
         ensures { result ≡ self.now.view }

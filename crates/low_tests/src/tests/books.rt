@@ -20,11 +20,10 @@ use std::alloc::{AllocError, Global};
 use std::marker::Brand;
 use std::test::Fail;
 
-const SCENES: [Scene; 7] = [
+const SCENES: [Scene; 6] = [
     Scene::Append,
     Scene::AppendAsFront,
     Scene::Messages,
-    Scene::Write,
     Scene::Answer,
     Scene::Fence,
     Scene::Zeros,
@@ -36,7 +35,6 @@ enum Scene {
     Append,
     AppendAsFront,
     Messages,
-    Write,
     Answer,
     Fence,
     Zeros,
@@ -73,12 +71,13 @@ fn run<J: Naming>(
         start,
         mut logs,
         mut words,
+        ..
     } = opened.named::<J>(alloc, plan)?;
     if logs.len() != 1 || words.len() != 1 {
         return Ok(false);
     }
     match scene {
-        Scene::Append | Scene::Write => takes(alloc, &book, &start, logs.remove(0), scene),
+        Scene::Append => takes(alloc, &book, &start, logs.remove(0)),
         Scene::AppendAsFront => takes_one::<Front<J>>(alloc, &book, &mut logs.remove(0), 1),
         Scene::Messages => takes_messages::<Front<J>>(alloc, plan, &book, logs.remove(0)),
         Scene::Answer | Scene::Fence => adds(alloc, plan, &book, &start, words.remove(0), scene),
@@ -86,25 +85,25 @@ fn run<J: Naming>(
     }
 }
 
-/// Whether the log, which has no entry, takes the note, and a front then sees that.
+/// Whether the log, which has no entry, takes the note, and fronts then see that: one that had seen
+/// all of it takes the log's for a reply, and one that had seen nothing catches up.
 fn takes<J: Naming>(
     alloc: Global,
     book: &Book<J>,
     start: &Part<J>,
     mut log: Log<J>,
-    scene: Scene,
 ) -> Result<bool, AllocError>
     requires notes { J.plan ≡ notes_plan }
     requires log { log ≡ empty_front 0 }
 {
     let entry = Entry::Insert(note(alloc, 7)?);
-    let is_taken = if let Scene::Write = scene {
-        log.write(book, 0, 0, entry)
-            .is_ok_and(|reply| reply.index() == 0)
-    } else {
-        log.append(book, 0, 0, &entry).is_ok()
+    let mut front = start.front(0);
+    front.catch_up(book);
+    let Ok(()) = log.append(book, 0, 0, &entry) else {
+        return Ok(false);
     };
-    Ok(is_taken && has_one(book, log) && catches_up(book, start.front(0)))
+    let settles = front.settle(&log.front(), 0);
+    Ok(settles && has_one(book, log) && catches_up(book, start.front(0)))
 }
 
 /// Whether the log has one entry, and its front too.

@@ -61,7 +61,7 @@ fn has_line<F: Fronts>(alloc: Global, front: F) -> Result<bool, AllocError> {
     let mut fronts = Vec::new(alloc);
     fronts.push(front)?;
     let line = Line::new(fronts);
-    let copy = line.again(alloc)?;
+    let copy = line.try_clone(alloc)?;
     let lengths = copy.lengths(alloc)?;
     Ok(copy.sources() == 1 && lengths.len() == 1 && lengths[0] == 0)
 }

@@ -14,12 +14,12 @@ use Rattle.stage_domain.proofs.answers.answer.Goals as goal
 
 pub new-requires-4-clause-of : goal.new-requires-4-clause-of
 new-requires-4-clause-of g c =
-    subst (λ l. AreOf (plan_of l) l) (sym c.in_ok-again.ensures) (subst (λ p. AreOf p c.args.line.now) (sym (plan_is c.args.plan.now c.args.line.now c.keeps_profile.ensures c.requires.of)) c.requires.of)
+    subst (λ l. AreOf (plan_of l) l) (sym c.in_ok-try_clone.ensures) (subst (λ p. AreOf p c.args.line.now) (sym (plan_is c.args.plan.now c.args.line.now c.keeps_profile.ensures c.requires.of)) c.requires.of)
 
 pub new-requires-4-clause-truth : goal.new-requires-4-clause-truth
 new-requires-4-clause-truth g c =
-    let same = same_answer c.args.plan.now c.args.stage c.args.reader c.in_ok-lengths.lengths.items c.args.line.now c.in_ok-again.field-0 c.args.ask.tag c.args.ask.key
-    (record { changes = c.new.result; evicts = c.new-2.result; piece = Some c.new-3.result; marker = None }) (plan_is c.args.plan.now c.args.line.now c.keeps_profile.ensures c.requires.of) c.in_ok-again.ensures c.in_ok-lengths.ensures c.new.ensures.items c.new-2.ensures.items
+    let same = same_answer c.args.plan.now c.args.stage c.args.reader c.in_ok-lengths.lengths.items c.args.line.now c.in_ok-try_clone.field-0 c.args.ask.tag c.args.ask.key
+    (record { changes = c.new.result; evicts = c.new-2.result; piece = Some c.new-3.result; marker = None }) (plan_is c.args.plan.now c.args.line.now c.keeps_profile.ensures c.requires.of) c.in_ok-try_clone.ensures c.in_ok-lengths.ensures c.new.ensures.items c.new-2.ensures.items
     (ap Some (piece_is c.new-3.result c.tag-tag.result.0 c.args.ask.tag (datum_of c.into_key.result) c.args.ask.key c.in_ok-rows.rows.items (sorted row_cmp (part c.args.plan.now c.args.stage (entries_of c.args.line.now) c.args.reader.view c.args.ask.key)) c.new-3.ensures c.tag-tag.ensures c.into_key.ensures
     (c.in_ok-rows.ensures
     ∙ (ap (λ k. sorted row_cmp (filter (has (key_place c.args.rows.now.plan.right c.args.rows.now.plan.aggregate (view_at c.args.rows.now.plan c.args.reader.view).key) k) (output_over c.args.rows.now))) c.key.ensures
@@ -29,8 +29,8 @@ new-requires-4-clause-truth g c =
 pub returns : goal.returns
 returns g c =
     c.new-4.ensures
-    ∙ same_answer c.args.plan.now c.args.stage c.args.reader c.in_ok-lengths.lengths.items c.args.line.now c.in_ok-again.field-0 c.args.ask.tag c.args.ask.key
-    (record { changes = c.new.result; evicts = c.new-2.result; piece = Some c.new-3.result; marker = None }) (plan_is c.args.plan.now c.args.line.now c.keeps_profile.ensures c.requires.of) c.in_ok-again.ensures c.in_ok-lengths.ensures c.new.ensures.items c.new-2.ensures.items
+    ∙ same_answer c.args.plan.now c.args.stage c.args.reader c.in_ok-lengths.lengths.items c.args.line.now c.in_ok-try_clone.field-0 c.args.ask.tag c.args.ask.key
+    (record { changes = c.new.result; evicts = c.new-2.result; piece = Some c.new-3.result; marker = None }) (plan_is c.args.plan.now c.args.line.now c.keeps_profile.ensures c.requires.of) c.in_ok-try_clone.ensures c.in_ok-lengths.ensures c.new.ensures.items c.new-2.ensures.items
     (ap Some (piece_is c.new-3.result c.tag-tag.result.0 c.args.ask.tag (datum_of c.into_key.result) c.args.ask.key c.in_ok-rows.rows.items (sorted row_cmp (part c.args.plan.now c.args.stage (entries_of c.args.line.now) c.args.reader.view c.args.ask.key)) c.new-3.ensures c.tag-tag.ensures c.into_key.ensures
     (c.in_ok-rows.ensures
     ∙ (ap (λ k. sorted row_cmp (filter (has (key_place c.args.rows.now.plan.right c.args.rows.now.plan.aggregate (view_at c.args.rows.now.plan c.args.reader.view).key) k) (output_over c.args.rows.now))) c.key.ensures
