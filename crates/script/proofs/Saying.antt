@@ -2,7 +2,7 @@
 use Rattle.std.proofs.Common.{◌≡◌, ◌==◌, cond, ℕ, ◌+◌, ◌<◌, inl, inr, List, [], ◌∷◌, ◌++◌, length, Option, Some, None, refl, ap, sym, subst, ◌∙◌, arith, append_assoc}
 use Rattle.std.proofs.lemmas.List.{append-nil, length-append}
 use Rattle.script.specs.Words.{IsLine}
-use Rattle.script.specs.Commands.{Action, insert, update, delete, fence, try, read, closing, Asks}
+use Rattle.script.specs.Commands.{Action, insert, update, delete, fence, try, read, closing, evict, count, Asks}
 use Rattle.script.specs.Scripts.{IsComment, Says, Numbered, call_at, IsScript, IsFault, IsFirstFault}
 use Rattle.script.proofs.Scan.{line_once}
 
@@ -15,20 +15,26 @@ asks_some fence a = cc a
 asks_some (try view key) a = cc a
 asks_some (read view key) a = cc a
 asks_some (closing view key) a = cc a
+asks_some (evict view key) a = cc a
+asks_some (count view) a = cc a
 
 -- names of commands have first bytes of their own
 abbrev first_byte : List ℕ → ℕ
 first_byte [] = 0
 first_byte (b ∷ bs) = b
 
+abbrev evicted : List ℕ → List (List ℕ) → Action
+evicted view [] = fence
+evicted view (key ∷ ys) = evict view key
+
 abbrev named : ℕ → (x y : List ℕ) → (ys : List (List ℕ)) → Action
-named b x y ys = cond (b == 105) (insert x (y ∷ ys)) (cond (b == 117) (update x (y ∷ ys)) (cond (b == 100) (delete x y) (cond (b == 116) (try x y) (cond (b == 114) (read x y) (closing x y)))))
+named b x y ys = cond (b == 105) (insert x (y ∷ ys)) (cond (b == 117) (update x (y ∷ ys)) (cond (b == 100) (delete x y) (cond (b == 116) (try x y) (cond (b == 114) (read x y) (cond (b == 99) (closing x y) (evicted y ys))))))
 
 -- the action that words of some form ask for
 abbrev asked : List (List ℕ) → Action
 asked [] = fence
 asked (name ∷ []) = fence
-asked (name ∷ x ∷ []) = fence
+asked (name ∷ x ∷ []) = count x
 asked (name ∷ x ∷ y ∷ ys) = named (first_byte name) x y ys
 
 asks_asked : (words : List (List ℕ)) (a : Action) → Asks words a → asked words ≡ a
@@ -41,6 +47,8 @@ asks_asked words fence is = ap asked is
 asks_asked words (try view key) is = ap asked is
 asks_asked words (read view key) is = ap asked is
 asks_asked words (closing view key) is = ap asked is
+asks_asked words (evict view key) is = ap asked is
+asks_asked words (count view) is = ap asked is
 
 -- the same words ask for one action
 asks_once : (words : List (List ℕ)) (a b : Action) → Asks words a → Asks words b → a ≡ b
@@ -108,20 +116,20 @@ pub fault_none : (lines : List (List ℕ)) (number : ℕ) (calls : List Numbered
 fault_none lines number calls f is = fault_within f.0 1 f.1 f.2 calls f.7 (subst (λ x. IsScript 1 x calls) f.4 is)
 
 -- the lines in front of a text are those calls
-pub record ReadUpTo (lines rest : List (List ℕ)) (count : ℕ) (calls : List Numbered) : Type 0 where
+pub record ReadUpTo (lines rest : List (List ℕ)) (taken : ℕ) (calls : List Numbered) : Type 0 where
   pub front : List (List ℕ)
   pub split : lines ≡ front ++ rest
-  pub counted : count ≡ length front
+  pub counted : taken ≡ length front
   pub read : IsScript 1 front calls
 
 pub read_none : (lines : List (List ℕ)) → ReadUpTo lines lines 0 []
 read_none lines = record { front = []; split = refl; counted = refl; read = refl }
 
-pub read_more : (lines rest more : List (List ℕ)) (line : List ℕ) (count next : ℕ) (calls after : List Numbered) (said : Option Action) → ReadUpTo lines rest count calls → rest ≡ line ∷ more → Says line said → next ≡ count + 1 → after ≡ calls ++ call_at (count + 1) said → ReadUpTo lines more next after
-read_more lines rest more line count next calls after said r cut says step same =
+pub read_more : (lines rest more : List (List ℕ)) (line : List ℕ) (taken next : ℕ) (calls after : List Numbered) (said : Option Action) → ReadUpTo lines rest taken calls → rest ≡ line ∷ more → Says line said → next ≡ taken + 1 → after ≡ calls ++ call_at (taken + 1) said → ReadUpTo lines more next after
+read_more lines rest more line taken next calls after said r cut says step same =
     let counted = r.counted in
-    let at : 1 + length r.front ≡ count + 1 = omega arith in
-    let reads : IsScript 1 (r.front ++ line ∷ []) (calls ++ call_at (count + 1) said) =
+    let at : 1 + length r.front ≡ taken + 1 = omega arith in
+    let reads : IsScript 1 (r.front ++ line ∷ []) (calls ++ call_at (taken + 1) said) =
     subst (λ n. IsScript 1 (r.front ++ line ∷ []) (calls ++ call_at n said)) at (script_more 1 r.front calls line said r.read says) in
     record {
       front = r.front ++ line ∷ [];
@@ -130,13 +138,13 @@ read_more lines rest more line count next calls after said r cut says step same 
       read = subst (λ x. IsScript 1 (r.front ++ line ∷ []) x) (sym same) reads;
     }
 
-pub read_all : (lines rest : List (List ℕ)) (count : ℕ) (calls : List Numbered) → ReadUpTo lines rest count calls → rest ≡ [] → IsScript 1 lines calls
-read_all lines rest count calls r done =
+pub read_all : (lines rest : List (List ℕ)) (taken : ℕ) (calls : List Numbered) → ReadUpTo lines rest taken calls → rest ≡ [] → IsScript 1 lines calls
+read_all lines rest taken calls r done =
     let split : lines ≡ r.front = r.split ∙ (ap (λ x. r.front ++ x) done ∙ append-nil r.front) in
     subst (λ x. IsScript 1 x calls) (sym split) r.read
 
-pub read_fault : (lines rest more : List (List ℕ)) (line : List ℕ) (count number : ℕ) (calls : List Numbered) → ReadUpTo lines rest count calls → rest ≡ line ∷ more → number ≡ count + 1 → IsFault line → IsFirstFault lines number
-read_fault lines rest more line count number calls r cut step fault =
+pub read_fault : (lines rest more : List (List ℕ)) (line : List ℕ) (taken number : ℕ) (calls : List Numbered) → ReadUpTo lines rest taken calls → rest ≡ line ∷ more → number ≡ taken + 1 → IsFault line → IsFirstFault lines number
+read_fault lines rest more line taken number calls r cut step fault =
     let counted = r.counted in
     let at : number ≡ length r.front + 1 = omega arith in
     (r.front, line, more, calls, r.split ∙ ap (λ x. r.front ++ x) cut, at, r.read, fault)

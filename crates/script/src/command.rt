@@ -19,6 +19,10 @@ pub enum Command {
     Read { view: String, key: String },
     /// `closing VIEW KEY`: a `read` at the end of what is run.
     Closing { view: String, key: String },
+    /// `evict view VIEW KEY`: the view shard is to forget the rows of the key.
+    Evict { view: String, key: String },
+    /// `count VIEW`: how many requests the shards of the view have sent.
+    Count { view: String },
 }
 
 impl Command {
@@ -45,6 +49,8 @@ impl Command {
             "try" => name_and_key(words).map(|(view, key)| Command::Try { view, key }),
             "read" => name_and_key(words).map(|(view, key)| Command::Read { view, key }),
             "closing" => name_and_key(words).map(|(view, key)| Command::Closing { view, key }),
+            "evict" => view_and_key(words).map(|(view, key)| Command::Evict { view, key }),
+            "count" => only_name(words).map(|view| Command::Count { view }),
             _ => None,
         }
     }
@@ -78,4 +84,30 @@ fn name_and_key(mut operands: Vec<String>) -> Option<(String, String)>
     let key = operands.remove(1);
     let name = operands.remove(0);
     Some((name, key))
+}
+
+// The operands `view VIEW KEY`.
+fn view_and_key(mut operands: Vec<String>) -> Option<(String, String)>
+    ensures some { IfSome result (λ found. map string_bytes operands.items
+        ≡ codes "view" ∷ string_bytes found.0 ∷ string_bytes found.1 ∷ []) }
+    ensures none { IsNone result → (view key : List ℕ)
+        → map string_bytes operands.items ≢ codes "view" ∷ view ∷ key ∷ [] }
+{
+    if operands.is_empty() || operands.remove(0).as_str() != "view" {
+        return None;
+    }
+    name_and_key(operands)
+}
+
+// The operand, where it is just one.
+fn only_name(mut operands: Vec<String>) -> Option<String>
+    ensures some { IfSome result (λ name. map string_bytes operands.items
+        ≡ string_bytes name ∷ []) }
+    ensures none { IsNone result → (name : List ℕ)
+        → map string_bytes operands.items ≢ name ∷ [] }
+{
+    if operands.len() != 1 {
+        return None;
+    }
+    operands.pop()
 }
