@@ -1,0 +1,398 @@
+//! What the threads of a store share, and the ways between them.
+ghost use Rattle.std.specs.Prelude.{◌≡◌, ◌⊎◌, ◌<◌, IfErr, IfOk, map};
+ghost use Rattle.row.specs.Bags.{Each};
+ghost use Rattle.model.specs.Places.{base_count, sources};
+ghost use Rattle.packet.specs.Readers.{readers};
+ghost use Rattle.schedule.specs.Codes.{reader_in};
+
+use crate::mail::{BaseMail, Reply, ViewMail, Want};
+use book::book::Book;
+use book::front::Front;
+use book::law::Naming;
+use links::bell::{Bell, Woken};
+use links::inbox::Inbox;
+use links::mailbox::Mailbox;
+use links::stops::Stops;
+use model::places;
+use packet::base_packet::BasePacket;
+use packet::reader::Reader;
+use packet::request::{Marker, Request};
+use packet::stage_packet::StagePacket;
+use plan::plan::Plan;
+use row::refused::Refused;
+use row::value::Value;
+use schedule::readers;
+use schedule::wire::Spot;
+use stage_domain::message::ToStage;
+use std::alloc::{AllocError, Global};
+use std::marker::Model;
+use std::sync::Wait;
+
+/// The plan, the book, and the ways between the threads: an inbox for each domain; for each session a
+/// mailbox for the replies to its writes, one for each view shard's acknowledgement of its fences,
+/// and a bell; and which domains have stopped. All of it is made at the start, so that a reply, an
+/// acknowledgement or a ring takes no memory.
+#[derive(Drop)]
+pub struct Routes<J: Naming> {
+    plan: Plan,
+    book: Book<J>,
+    sources: Vec<usize>,
+    readers: Vec<Reader>,
+    bases: Vec<Inbox<BaseMail<J>>>,
+    stages: Vec<Inbox<ToStage<Front<J>>>>,
+    views: Vec<Inbox<ViewMail<J>>>,
+    replies: Vec<Mailbox<Reply<J>>>,
+    acks: Vec<Mailbox<u64>>,
+    bells: Vec<Bell>,
+    started: Vec<Mailbox<()>>,
+    stops: Stops,
+    cut_off: Stops,
+}
+
+impl<J: Naming> Model for Routes<J> {
+    ghost use Rattle.std.specs.Prelude.{◌≡◌, ◌<◌, map};
+    ghost use Rattle.row.specs.Bags.{Each};
+    ghost use Rattle.plan.specs.Layouts.{Layout};
+    ghost use Rattle.model.specs.Places.{base_count, sources as sources_of};
+    ghost use Rattle.packet.specs.Readers.{readers as readers_of};
+    ghost use Rattle.schedule.specs.Codes.{reader_in};
+
+    ghost Value = { Layout };
+
+    ghost view = { λ r. r.plan };
+
+    ghost invariant = { λ r. (r.plan ≡ J.plan) × (r.sources.items ≡ sources_of J.plan)
+        × Each (λ b. b < base_count J.plan) r.sources.items
+        × (map reader_in r.readers.items ≡ readers_of J.plan) };
+}
+
+impl<J: Naming> Routes<J> {
+    /// The ways of a store of this plan for so many sessions, on which nothing is. Errors: memory
+    /// only.
+    pub fn new(
+        alloc: Global,
+        plan: Plan,
+        book: Book<J>,
+        sessions: usize,
+    ) -> Result<Routes<J>, AllocError>
+        requires plan { plan ≡ J.plan }
+        requires sessions { sessions < 17 }
+    {
+        let sources = places::sources(alloc, &plan)?;
+        let readers = readers::readers(alloc, &plan)?;
+        let (bases, stages, views) = (book.bases(), plan.stages(), readers.len());
+        Ok(Routes {
+            bases: inboxes(alloc, bases, stages.saturating_add(sessions))?,
+            stages: inboxes(alloc, stages, sources.len().saturating_add(views))?,
+            views: inboxes(alloc, views, stages.saturating_add(sessions))?,
+            replies: mailboxes(alloc, sessions)?,
+            acks: mailboxes(alloc, sessions.saturating_mul(views))?,
+            bells: bells(alloc, sessions)?,
+            started: mailboxes(alloc, bases.saturating_add(stages).saturating_add(views))?,
+            stops: Stops::new(alloc, bases.saturating_add(stages).saturating_add(views))?,
+            cut_off: Stops::new(alloc, views)?,
+            plan,
+            book,
+            sources,
+            readers,
+        })
+    }
+
+    /// The plan.
+    pub fn plan(&self) -> &Plan
+        ensures { result.now ≡ J.plan }
+    {
+        &self.plan
+    }
+
+    /// The book.
+    pub fn book(&self) -> &Book<J> {
+        &self.book
+    }
+
+    /// The base shards that are sources of the stage, in order.
+    pub fn sources(&self) -> &[usize]
+        ensures sources { result.now ≡ sources J.plan }
+        ensures range { Each (λ b. b < base_count J.plan) result.now }
+    {
+        self.sources.as_slice()
+    }
+
+    /// The shards of the views, view by view.
+    pub fn readers(&self) -> &[Reader]
+        ensures { map reader_in result.now ≡ readers J.plan }
+    {
+        self.readers.as_slice()
+    }
+
+    /// The inbox of a base shard: an edge for each stage shard, then one for each session.
+    pub fn base_inbox(&self, base: usize) -> Option<&Inbox<BaseMail<J>>> {
+        self.bases.get(base)
+    }
+
+    /// The inbox of a stage shard: an edge for each source, then one for each view shard.
+    pub fn stage_inbox(&self, stage: usize) -> Option<&Inbox<ToStage<Front<J>>>> {
+        self.stages.get(stage)
+    }
+
+    /// The inbox of a view shard: an edge for each stage shard, then one for each session.
+    pub fn view_inbox(&self, reader: usize) -> Option<&Inbox<ViewMail<J>>> {
+        self.views.get(reader)
+    }
+
+    /// Sends a session's message to the base shard that it is for. Refused with `Stopped` where the
+    /// store has stopped, or `NoMemory`; it is then not sent. Cost: that of `Inbox::put`.
+    pub fn to_base<R: Wait>(&self, rt: &R, session: usize, mail: BaseMail<J>) -> Result<(), Refused>
+        ensures only { IfErr result (λ e. (e ≡ Refused.NoMemory) ⊎ (e ≡ Refused.Stopped)) }
+    {
+        let edge = self.stages.len().saturating_add(session);
+        put(rt, self.bases.get(mail.base()), edge, mail)
+    }
+
+    /// Sends a source's packet to a stage shard, as `to_base`.
+    pub fn source_to_stage<R: Wait>(
+        &self,
+        rt: &R,
+        source: usize,
+        stage: usize,
+        packet: BasePacket<Front<J>>,
+    ) -> Result<(), Refused>
+        ensures only { IfErr result (λ e. (e ≡ Refused.NoMemory) ⊎ (e ≡ Refused.Stopped)) }
+    {
+        let message = ToStage::Packet { source, packet };
+        put(rt, self.stages.get(stage), source, message)
+    }
+
+    /// Sends a view shard's request to a stage shard, as `to_base`.
+    pub fn view_to_stage<R: Wait>(
+        &self,
+        rt: &R,
+        reader: usize,
+        stage: usize,
+        request: Request,
+    ) -> Result<(), Refused>
+        ensures only { IfErr result (λ e. (e ≡ Refused.NoMemory) ⊎ (e ≡ Refused.Stopped)) }
+    {
+        let edge = self.sources.len().saturating_add(reader);
+        put(rt, self.stages.get(stage), edge, ToStage::Request(request))
+    }
+
+    /// Sends a stage shard's packet to a view shard, as `to_base`.
+    pub fn stage_to_view<R: Wait>(
+        &self,
+        rt: &R,
+        stage: usize,
+        reader: usize,
+        packet: StagePacket<Front<J>>,
+    ) -> Result<(), Refused>
+        ensures only { IfErr result (λ e. (e ≡ Refused.NoMemory) ⊎ (e ≡ Refused.Stopped)) }
+    {
+        let mail = ViewMail::Packet { stage, packet };
+        put(rt, self.views.get(reader), stage, mail)
+    }
+
+    /// Sends a session's want to a view shard, as `to_base`.
+    pub fn want<R: Wait>(&self, rt: &R, reader: usize, want: Want) -> Result<(), Refused>
+        ensures only { IfErr result (λ e. (e ≡ Refused.NoMemory) ⊎ (e ≡ Refused.Stopped)) }
+    {
+        let edge = self.stages.len().saturating_add(want.session);
+        put(rt, self.views.get(reader), edge, ViewMail::Want(want))
+    }
+
+    /// Sends a session's order to evict a key to a view shard, as `to_base`.
+    pub fn order<R: Wait>(
+        &self,
+        rt: &R,
+        session: usize,
+        reader: usize,
+        key: Value,
+    ) -> Result<(), Refused>
+        ensures only { IfErr result (λ e. (e ≡ Refused.NoMemory) ⊎ (e ≡ Refused.Stopped)) }
+    {
+        let edge = self.stages.len().saturating_add(session);
+        put(rt, self.views.get(reader), edge, ViewMail::Order { key })
+    }
+
+    /// Gives a session the reply to its write. It takes no memory.
+    pub fn reply<R: Wait>(&self, rt: &R, reply: Reply<J>) {
+        if let Some(mailbox) = self.replies.get(reply.session()) {
+            mailbox.send(rt, reply);
+        }
+    }
+
+    /// Waits for a reply to a session. A base shard replies to each write that was sent, also when it
+    /// has stopped. `None` only where there is no such session.
+    pub fn wait_reply<R: Wait>(&self, rt: &R, session: usize) -> Option<Reply<J>> {
+        self.replies.get(session)?.receive(rt)
+    }
+
+    /// Tells a fence's session that a view shard has its marker from every stage shard. It takes no
+    /// memory.
+    pub fn acknowledge<R: Wait>(&self, rt: &R, reader: usize, marker: Marker) {
+        if let Some(mailbox) = self.acks.get(self.ack_place(marker.session, reader)) {
+            mailbox.send(rt, marker.number);
+        }
+    }
+
+    /// Waits for a view shard's acknowledgement of a session's fence: the number of the fence's call.
+    /// `None` where there is none and one is no longer to come, since the view shard, a stage shard or
+    /// a source has stopped.
+    pub fn wait_ack<R: Wait>(&self, rt: &R, session: usize, reader: usize) -> Option<u64> {
+        let mailbox = self.acks.get(self.ack_place(session, reader))?;
+        mailbox.wait(rt, &self.cut_off, reader)
+    }
+
+    fn ack_place(&self, session: usize, reader: usize) -> usize {
+        session
+            .saturating_mul(self.views.len())
+            .saturating_add(reader)
+    }
+
+    /// Wakes a session that waits under this number. It takes no memory.
+    pub fn ring<R: Wait>(&self, rt: &R, session: usize, number: u64) {
+        if let Some(bell) = self.bells.get(session) {
+            bell.ring(rt, number);
+        }
+    }
+
+    /// Waits until a session's bell rings for this number, or something stops.
+    pub fn wait_ring<R: Wait>(&self, rt: &R, session: usize, number: u64) -> Woken {
+        match self.bells.get(session) {
+            Some(bell) => bell.wait(rt, number),
+            None => Woken::Alarmed,
+        }
+    }
+
+    /// Says that a domain's thread has begun, to who starts the store.
+    pub fn begin<R: Wait>(&self, rt: &R, domain: Spot) {
+        if let Some(mailbox) = self.started.get(self.place(domain)) {
+            mailbox.send(rt, ());
+        }
+    }
+
+    /// Waits until a domain's thread has begun; false where it has stopped instead.
+    pub fn has_begun<R: Wait>(&self, rt: &R, domain: Spot) -> bool {
+        let place = self.place(domain);
+        match self.started.get(place) {
+            Some(mailbox) => mailbox.wait(rt, &self.stops, place).is_some(),
+            None => false,
+        }
+    }
+
+    /// Says that a domain has stopped, and wakes who waits for it. What needs it is then refused.
+    pub fn stop<R: Wait>(&self, rt: &R, domain: Spot) {
+        self.stops.mark(self.place(domain));
+        self.cut_off(domain);
+        self.alarm(rt);
+    }
+
+    /// Whether a domain has stopped. It waits for nobody and takes no memory.
+    pub fn has_stopped(&self, domain: Spot) -> bool {
+        self.stops.has(self.place(domain))
+    }
+
+    /// Whether a view shard, a stage shard or a source has stopped, so that nothing new comes to the
+    /// view shard, or not all. It waits for nobody and takes no memory.
+    pub fn is_cut_off(&self, reader: usize) -> bool {
+        self.cut_off.has(reader)
+    }
+
+    /// Closes all inboxes: what was sent is still taken, and nothing more can be sent.
+    pub fn close<R: Wait>(&self, rt: &R) {
+        for inbox in &self.bases {
+            inbox.close(rt);
+        }
+        for inbox in &self.stages {
+            inbox.close(rt);
+        }
+        for inbox in &self.views {
+            inbox.close(rt);
+        }
+    }
+
+    // The place of a domain's flag: the base shards come first, then the stage shards.
+    fn place(&self, domain: Spot) -> usize {
+        let (bases, stages) = (self.bases.len(), self.stages.len());
+        match domain {
+            Spot::Base(base) => base,
+            Spot::Stage(stage) => bases.saturating_add(stage),
+            Spot::View(reader) => bases.saturating_add(stages).saturating_add(reader),
+        }
+    }
+
+    // Marks the view shards to which nothing more comes through a domain.
+    fn cut_off(&self, domain: Spot) {
+        match domain {
+            Spot::View(reader) => self.cut_off.mark(reader),
+            Spot::Base(base) if !self.sources.contains(&base) => (),
+            Spot::Base(_) | Spot::Stage(_) => {
+                for reader in 0..self.views.len() {
+                    self.cut_off.mark(reader);
+                }
+            }
+        }
+    }
+
+    // Wakes all who wait, to look what has stopped.
+    fn alarm<R: Wait>(&self, rt: &R) {
+        for mailbox in &self.replies {
+            mailbox.alarm(rt);
+        }
+        for mailbox in &self.acks {
+            mailbox.alarm(rt);
+        }
+        for mailbox in &self.started {
+            mailbox.alarm(rt);
+        }
+        for bell in &self.bells {
+            bell.alarm(rt);
+        }
+    }
+}
+
+// Puts a message on an edge of an inbox.
+fn put<T: Drop, R: Wait>(
+    rt: &R,
+    inbox: Option<&Inbox<T>>,
+    edge: usize,
+    message: T,
+) -> Result<(), Refused>
+    ensures only { IfErr result (λ e. (e ≡ Refused.NoMemory) ⊎ (e ≡ Refused.Stopped)) }
+{
+    let Some(inbox) = inbox else {
+        return Err(Refused::Stopped);
+    };
+    match inbox.put(rt, edge, message) {
+        Ok(()) => Ok(()),
+        Err(unsent) if unsent.refused == Refused::NoMemory => Err(Refused::NoMemory),
+        Err(_) => Err(Refused::Stopped),
+    }
+}
+
+fn inboxes<T: Drop>(
+    alloc: Global,
+    count: usize,
+    edges: usize,
+) -> Result<Vec<Inbox<T>>, AllocError> {
+    let mut all = Vec::with_capacity(alloc, count)?;
+    for _inbox in 0..count {
+        all.push(Inbox::new(alloc, edges)?)?;
+    }
+    Ok(all)
+}
+
+fn mailboxes<T: Drop>(alloc: Global, count: usize) -> Result<Vec<Mailbox<T>>, AllocError> {
+    let mut all = Vec::with_capacity(alloc, count)?;
+    for _mailbox in 0..count {
+        all.push(Mailbox::new())?;
+    }
+    Ok(all)
+}
+
+fn bells(alloc: Global, count: usize) -> Result<Vec<Bell>, AllocError> {
+    let mut all = Vec::with_capacity(alloc, count)?;
+    for _bell in 0..count {
+        all.push(Bell::new())?;
+    }
+    Ok(all)
+}
