@@ -1,1 +1,6 @@
+pub mod Due
+pub mod Replies
+pub mod Sent
 pub mod Shows
+pub mod Starting
+pub mod Waiting

@@ -1,0 +1,161 @@
+//! The thread of a base shard.
+ghost use Rattle.std.specs.Prelude.{◌≡◌, ◌<◌, false, length, IfErr, IfOk};
+ghost use Rattle.base_domain.specs.Received.{Stays};
+ghost use Rattle.packet.specs.Outboxes.{IsClear};
+ghost use Rattle.workers.specs.BaseTurns.{Went, log_in};
+
+use crate::base_turns::{BaseTurn, take_base};
+use crate::fresh::fresh_base;
+use crate::gate::Gate;
+use crate::turns::Turns;
+use base_domain::base_domain::BaseDomain;
+use book::front::Front;
+use book::law::Naming;
+use book::log::Log;
+use model::places::place_of;
+use packet::base_packet::BasePacket;
+use packet::outbox::Outbox;
+use plan::domain::DomainId;
+use plan::plan::Plan;
+use routes::mail::BaseMail;
+use routes::routes::Routes;
+use row::refused::Refused;
+use schedule::wire::Spot;
+use std::alloc::Global;
+use std::sync::Wait;
+
+/// Takes one message after the other, and sends what it makes of each, until the inbox is closed and
+/// empty. A base shard that has stopped goes on refusing writes with `Stopped`. Where memory is refused
+/// for its domain, it stops before its first turn.
+pub fn base_work<J: Naming, R: Wait, G: Gate>(
+    rt: &R,
+    alloc: Global,
+    routes: &Routes<J>,
+    log: Log<J>,
+    sessions: usize,
+    gate: &G,
+)
+    requires empty { log.len ≡ 0 }
+    requires sessions { sessions ≡ J.sessions }
+{
+    let base = log.base();
+    let stages = routes.plan().stages();
+    let (Ok(mut domain), Ok(mut out), Some(inbox)) = (
+        fresh_base(alloc, routes.plan(), log, sessions),
+        Outbox::new(alloc, stages),
+        routes.base_inbox(base),
+    ) else {
+        return routes.stop(rt, Spot::Base(base));
+    };
+    let Ok(mut turns) = Turns::new(alloc, inbox.edges()) else {
+        return routes.stop(rt, Spot::Base(base));
+    };
+    routes.begin(rt, Spot::Base(base));
+    let id = id_of(routes.plan(), base);
+    for _ in rt.forever() {
+        let number = turns.turn();
+        let Some(mail) = turns.next(rt, inbox) else {
+            break;
+        };
+        gate.before(id, number);
+        turn(rt, alloc, routes, base, &mut domain, mail, &mut out);
+        gate.after(id, number);
+    }
+}
+
+// The name of a base shard.
+fn id_of(plan: &Plan, base: usize) -> DomainId {
+    match place_of(plan, base) {
+        Some((table, shard)) => DomainId::Base(table, shard),
+        None => DomainId::Base(0, base),
+    }
+}
+
+// Takes one message, sends its packets, and then its reply. Where a packet is refused the domain stops:
+// a later one would come out of turn.
+fn turn<J: Naming, R: Wait>(
+    rt: &R,
+    alloc: Global,
+    routes: &Routes<J>,
+    base: usize,
+    domain: &mut BaseDomain<Front<J>>,
+    mail: BaseMail<J>,
+    out: &mut Outbox<Front<J>>,
+)
+    requires base { domain.old.front.base ≡ base }
+    requires sessions { length domain.old.next ≡ J.sessions }
+    requires clear { IsClear out.old }
+    requires edges { length out.old.edges ≡ J.plan.stages }
+    ensures went { domain.new.stopped ≡ false → Went J.plan mail domain.old domain.new }
+    ensures place { Stays (log_in J.plan) domain.old domain.new }
+    ensures clear { IsClear out.new }
+    ensures edges { length out.new.edges ≡ J.plan.stages }
+{
+    let was_running = !domain.is_stopped();
+    let BaseTurn { reply, taken: _ } = take_base(alloc, routes.book(), base, domain, mail, out);
+    pass_on(rt, alloc, routes, base, domain, out);
+    if let Some(reply) = reply {
+        routes.reply(rt, reply);
+    }
+    if was_running && domain.is_stopped() {
+        routes.stop(rt, Spot::Base(base));
+    }
+}
+
+// Sends what it put out; where a packet is refused the domain stops.
+fn pass_on<J: Naming, R: Wait>(
+    rt: &R,
+    alloc: Global,
+    routes: &Routes<J>,
+    base: usize,
+    domain: &mut BaseDomain<Front<J>>,
+    out: &mut Outbox<Front<J>>,
+)
+    requires reply { out.old.reply ≡ None }
+    ensures goes_on { domain.new.stopped ≡ false → domain.new ≡ domain.old }
+    ensures stays { domain.new ≡ record domain.old { stopped = domain.new.stopped } }
+    ensures clear { IsClear out.new }
+    ensures edges { length out.new.edges ≡ length out.old.edges }
+{
+    if send(rt, alloc, routes, base, out).is_err() {
+        domain.stop();
+    }
+}
+
+// Sends the packets to each stage shard, in order, and leaves the outbox clear. Errors: a packet was
+// refused; none is sent after it.
+fn send<J: Naming, R: Wait>(
+    rt: &R,
+    alloc: Global,
+    routes: &Routes<J>,
+    base: usize,
+    out: &mut Outbox<Front<J>>,
+) -> Result<(), Refused>
+    requires reply { out.old.reply ≡ None }
+    ensures clear { IsClear out.new }
+    ensures edges { length out.new.edges ≡ length out.old.edges }
+{
+    let source = routes.sources().iter().position(|own| *own == base);
+    let mut sent = Ok(());
+    for stage in 0..out.stages() {
+        let packets = out.take(alloc, stage);
+        if let (Ok(()), Some(source)) = (sent, source) {
+            sent = send_to(rt, routes, source, stage, packets);
+        }
+    }
+    sent
+}
+
+// Sends packets to one stage shard, in order. Errors: a packet was refused; none is sent after it.
+fn send_to<J: Naming, R: Wait>(
+    rt: &R,
+    routes: &Routes<J>,
+    source: usize,
+    stage: usize,
+    packets: Vec<BasePacket<Front<J>>>,
+) -> Result<(), Refused> {
+    for packet in packets {
+        routes.source_to_stage(rt, source, stage, packet)?;
+    }
+    Ok(())
+}

@@ -1,0 +1,89 @@
+//! The order in which a thread takes what comes to it.
+ghost use Rattle.std.specs.Prelude.{◌≡◌, ◌+◌, [], false, min, length, replicate, IfNone, IfOk, IfSome};
+ghost use Rattle.links.specs.Queued.{holds_any};
+ghost use Rattle.workers.specs.Turns.{IsFirst, IsNext};
+
+use links::inbox::{Inbox, Taking};
+use links::queues::Queues;
+use std::alloc::{AllocError, Global};
+use std::marker::Model;
+use std::sync::Wait;
+
+/// The messages that a thread has taken from its inbox and has not begun, and the number of its turn.
+/// It goes on with an edge until no message of it is left, then with the next edge; it takes more
+/// where none is left on any.
+#[derive(Drop)]
+pub struct Turns<T: Drop> {
+    taken: Queues<T>,
+    edge: usize,
+    turn: u64,
+}
+
+impl<T: Drop> Model for Turns<T> {
+    ghost use Rattle.workers.specs.Turns.{TurnsView};
+
+    ghost Value = { TurnsView T };
+
+    ghost view = { λ t. record { waiting = t.taken; edge = t.edge; turn = t.turn } };
+}
+
+impl<T: Drop> Turns<T> {
+    /// No message of so many edges, before the first turn. Errors: memory only. Cost: linear in the
+    /// edges.
+    pub fn new(alloc: Global, edges: usize) -> Result<Turns<T>, AllocError>
+        ensures { IfOk result (λ t. t ≡ record { waiting = replicate edges []; edge = 0; turn = 0 }) }
+    {
+        Ok(Turns {
+            taken: Queues::new(alloc, edges)?,
+            edge: 0,
+            turn: 0,
+        })
+    }
+
+    /// How many turns have begun, which is the number of the next one. It stays at the greatest number.
+    pub fn turn(&self) -> u64
+        ensures { result ≡ self.now.turn }
+    {
+        self.turn
+    }
+
+    /// The next message: the first of its edge. It waits until there is one; `None` once the inbox is
+    /// closed and no message is left. Takes no memory. Cost: constant, spread over many; one lock where
+    /// none was left.
+    pub fn next<R: Wait>(&mut self, rt: &R, inbox: &Inbox<T>) -> Option<T>
+        requires edges { length self.old.waiting ≡ inbox.now }
+        ensures next { IfSome result (λ m. IsNext self.old.waiting m self.new.waiting) }
+        ensures counts { IfSome result (λ _. self.new.turn ≡ min (self.old.turn + 1) u64.MAX) }
+        ensures ends { IfNone result (holds_any self.old.waiting ≡ false) }
+        ensures edges { length self.new.waiting ≡ length self.old.waiting }
+    {
+        if let Some(message) = self.pop() {
+            return Some(message);
+        }
+        match inbox.take_all(rt, &mut self.taken) {
+            Taking::Taken => {
+                self.edge = 0;
+                self.pop()
+            }
+            Taking::Closed => None,
+        }
+    }
+
+    // The first message of the first edge that has one, from the edge on that it is at.
+    fn pop(&mut self) -> Option<T>
+        ensures first { IfSome result (λ m. IsFirst self.old.waiting m self.new.waiting) }
+        ensures counts { IfSome result (λ _. self.new.turn ≡ min (self.old.turn + 1) u64.MAX) }
+        ensures stays { IfNone result (self.new ≡ self.old) }
+        ensures none { IfNone result (self.old.edge ≡ 0 → holds_any self.old.waiting ≡ false) }
+        ensures edges { length self.new.waiting ≡ length self.old.waiting }
+    {
+        for edge in self.edge..self.taken.edges() {
+            if self.taken.len(edge) > 0 {
+                self.edge = edge;
+                self.turn = self.turn.saturating_add(1);
+                return self.taken.pop(edge);
+            }
+        }
+        None
+    }
+}

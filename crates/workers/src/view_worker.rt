@@ -1,0 +1,212 @@
+//! The thread of a view shard.
+ghost use Rattle.std.specs.Prelude.{◌≡◌, ◌<◌, [], length, slice_get, IfSome};
+ghost use Rattle.packet.specs.Outboxes.{packets_on};
+ghost use Rattle.packet.specs.Messages.{none_of};
+ghost use Rattle.packet.specs.Readers.{readers};
+ghost use Rattle.packet.specs.declared.mode.Mode.TheVariants.{Running};
+ghost use Rattle.schedule.specs.Codes.{reader_in};
+ghost use Rattle.shown.specs.Boards.{pending, shown};
+ghost use Rattle.shown.specs.Snapshots.{first_of};
+ghost use Rattle.view_domain.specs.Outboxes.{IsClear};
+ghost use Rattle.workers.specs.ViewTurns.{Shows, Went};
+
+use crate::fresh::fresh_view;
+use crate::gate::Gate;
+use crate::turns::Turns;
+use crate::view_inbox::take_from_inbox;
+use crate::waits::Waits;
+use book::front::Front;
+use book::law::Naming;
+use book::part::Part;
+use packet::mode::Mode;
+use packet::reader::Reader;
+use packet::request::Request;
+use plan::domain::DomainId;
+use routes::mail::ViewMail;
+use routes::routes::Routes;
+use row::refused::Refused;
+use schedule::wire::Spot;
+use shown::writer::ShownWriter;
+use std::alloc::Global;
+use std::mem;
+use std::sync::Wait;
+use view_domain::message::ToView;
+use view_domain::outbox::ViewOutbox;
+use view_domain::view_domain::ViewDomain;
+
+/// Takes one message after the other, shows what it makes of each, and sends what it makes, until the
+/// inbox is closed and empty. What comes to a view shard that has stopped is lost. Where memory is
+/// refused for its domain, it stops before its first turn. What was shown stays shown.
+pub fn view_work<J: Naming, R: Wait + Drop, G: Gate>(
+    rt: &R,
+    alloc: Global,
+    routes: &Routes<J>,
+    part: &Part<J>,
+    reader: usize,
+    mut writer: ShownWriter<J, R>,
+    gate: &G,
+)
+    requires first { IfSome (slice_get (readers J.plan) reader) (λ r. shown writer
+        ≡ first_of J.plan r.view r.shard) }
+    requires idle { pending writer ≡ [] }
+{
+    work(rt, alloc, routes, part, reader, &mut writer, gate);
+    mem::forget(writer);
+}
+
+// All of it but for the end of the writer.
+fn work<J: Naming, R: Wait + Drop, G: Gate>(
+    rt: &R,
+    alloc: Global,
+    routes: &Routes<J>,
+    part: &Part<J>,
+    reader: usize,
+    writer: &mut ShownWriter<J, R>,
+    gate: &G,
+)
+    requires first { IfSome (slice_get (readers J.plan) reader) (λ r. shown writer.old
+        ≡ first_of J.plan r.view r.shard) }
+    requires idle { pending writer.old ≡ [] }
+{
+    let plan = routes.plan();
+    let (Some(own), Some(inbox)) = (reader_at(routes, reader), routes.view_inbox(reader)) else {
+        return routes.stop(rt, Spot::View(reader));
+    };
+    let sessions = inbox.edges().saturating_sub(plan.stages());
+    let (Ok(mut domain), Ok(mut out), Ok(mut waits), Ok(mut turns)) = (
+        fresh_view(alloc, plan, part, routes.sources(), own),
+        ViewOutbox::new(alloc, plan.stages()),
+        Waits::new(alloc, sessions),
+        Turns::new(alloc, inbox.edges()),
+    ) else {
+        return routes.stop(rt, Spot::View(reader));
+    };
+    routes.begin(rt, Spot::View(reader));
+    let id = DomainId::View(own.view, own.shard);
+    for _ in rt.forever() {
+        let number = turns.turn();
+        let Some(mail) = turns.next(rt, inbox) else {
+            break;
+        };
+        gate.before(id, number);
+        let message = message_of(mail, &mut waits);
+        turn(
+            rt,
+            alloc,
+            routes,
+            reader,
+            &mut domain,
+            writer,
+            message,
+            &mut out,
+        );
+        if domain.mode() == Mode::Running {
+            waits.ring(rt, routes, &domain);
+        }
+        gate.after(id, number);
+    }
+}
+
+// The view shard at a place.
+fn reader_at<J: Naming>(routes: &Routes<J>, place: usize) -> Option<Reader>
+    ensures there { IfSome result (λ r. r.view < length J.plan.views) }
+    ensures place { IfSome result (λ r. slice_get (readers J.plan) place ≡ Some (reader_in r)) }
+{
+    match routes.readers().get(place) {
+        Some(reader) => Some(Reader {
+            view: reader.view,
+            shard: reader.shard,
+        }),
+        None => None,
+    }
+}
+
+// The message of a view shard; a session that wants a key waits for it.
+fn message_of<J: Naming>(mail: ViewMail<J>, waits: &mut Waits) -> ToView<Front<J>> {
+    match mail {
+        ViewMail::Packet { stage, packet } => ToView::Packet { stage, packet },
+        ViewMail::Want(want) => {
+            waits.put(want.session, want.number, want.waits);
+            ToView::Want { key: want.key }
+        }
+        ViewMail::Order { key } => ToView::Order { key },
+    }
+}
+
+// Takes one message, where the domain runs: its change is shown, its requests are sent, and then the
+// fence is acknowledged whose marker has come. Where the message or a request is refused the domain
+// stops.
+fn turn<J: Naming, R: Wait + Drop>(
+    rt: &R,
+    alloc: Global,
+    routes: &Routes<J>,
+    reader: usize,
+    domain: &mut ViewDomain<Front<J>>,
+    writer: &mut ShownWriter<J, R>,
+    message: ToView<Front<J>>,
+    out: &mut ViewOutbox<Front<J>>,
+)
+    requires plan { domain.old.mode ≡ Running → domain.old.plan ≡ J.plan }
+    requires shows { domain.old.mode ≡ Running → Shows domain.old (shown writer.old) }
+    requires idle { domain.old.mode ≡ Running → pending writer.old ≡ [] }
+    requires clear { domain.old.mode ≡ Running → IsClear out.old }
+    requires edges { length out.old.requests ≡ J.plan.stages }
+    ensures went { domain.new.mode ≡ Running → Went message domain.old domain.new }
+    ensures plan { domain.new.mode ≡ Running → domain.new.plan ≡ J.plan }
+    ensures shows { domain.new.mode ≡ Running → Shows domain.new (shown writer.new) }
+    ensures idle { domain.new.mode ≡ Running → pending writer.new ≡ [] }
+    ensures clear { domain.new.mode ≡ Running → IsClear out.new }
+    ensures edges { length out.new.requests ≡ J.plan.stages }
+{
+    if domain.mode() != Mode::Running {
+        return;
+    }
+    let plan = routes.plan();
+    let taken = take_from_inbox(alloc, plan, domain, writer, message, out);
+    if taken.is_err() || send(rt, alloc, routes, reader, plan.stages(), out).is_err() {
+        domain.stop();
+        return routes.stop(rt, Spot::View(reader));
+    }
+    if let Some(marker) = out.take_ack() {
+        routes.acknowledge(rt, reader, marker);
+    }
+}
+
+// Sends the requests to each stage shard, in order, and leaves none. Errors: a request was refused;
+// none is sent after it.
+fn send<J: Naming, R: Wait>(
+    rt: &R,
+    alloc: Global,
+    routes: &Routes<J>,
+    reader: usize,
+    stages: usize,
+    out: &mut ViewOutbox<Front<J>>,
+) -> Result<(), Refused>
+    requires edges { length out.old.requests ≡ stages }
+    ensures none { packets_on out.new.requests ≡ none_of out.new.requests }
+    ensures rest { out.new ≡ record out.old { requests = out.new.requests } }
+    ensures edges { length out.new.requests ≡ stages }
+{
+    let mut sent = Ok(());
+    for stage in 0..stages {
+        let requests = out.take_requests(alloc, stage);
+        if let Ok(()) = sent {
+            sent = send_to(rt, routes, reader, stage, requests);
+        }
+    }
+    sent
+}
+
+// Sends requests to one stage shard, in order. Errors: a request was refused; none is sent after it.
+fn send_to<J: Naming, R: Wait>(
+    rt: &R,
+    routes: &Routes<J>,
+    reader: usize,
+    stage: usize,
+    requests: Vec<Request>,
+) -> Result<(), Refused> {
+    for request in requests {
+        routes.view_to_stage(rt, reader, stage, request)?;
+    }
+    Ok(())
+}
