@@ -1,0 +1,130 @@
+-- What one look finds, and the sessions that a call leaves so.
+use Rattle.std.proofs.Common.{◌≡◌, ◌⊎◌, ℕ, zero, suc, ◌<◌, true, List, [], ◌∷◌, map, length, get_or, slice_get, slice_set, position, Option, Some, None, Result, Ok, Err, IfOk, IfErr, IfSome, OnOk, refl, ap, sym, ◌∙◌, subst, arith, inl, inr}
+use Rattle.std.proofs.lemmas.List.{length-map}
+use Rattle.row.specs.Cells.{Datum, Cells, datum_of}
+use Rattle.row.specs.declared.refused.Refused.{Refused}
+use Rattle.row.specs.declared.refused.Refused.TheVariants.{NoMemory, Stopped, Busy, Behind}
+use Rattle.row.specs.declared.value.Value.{Value}
+use Rattle.plan.specs.Layouts.{Layout, view_at}
+use Rattle.model.specs.Histories.{view_shard}
+use Rattle.model.specs.Queries.{answer}
+use Rattle.model.proofs.Prefixes.{prefix_self}
+use Rattle.book.specs.Sessions.{CutView, fronts}
+use Rattle.packet.specs.Readers.{Reader, is_reader, readers}
+use Rattle.packet.specs.declared.reader.Reader.{Reader as Code}
+use Rattle.schedule.specs.Codes.{reader_in}
+use Rattle.protocol.proofs.Spots.{is_found, is_same}
+use Rattle.shown.specs.Looks.{OnHit, OnMiss}
+use Rattle.shown.specs.Snapshots.{Snapshot, IsLater, IsTrue, shown_at}
+use Rattle.shown.specs.declared.reader.Look.{Look}
+use Rattle.shown.specs.declared.reader.Look.TheVariants.{Hit, Miss}
+use Rattle.sessions.specs.Callers.{Caller, AreLater, IsSight, reader_of}
+use Rattle.sessions.specs.Reads.{HasLooked, IsHidden, IsUnanswered, IsUnread}
+use Rattle.sessions.specs.Fences.{IsUnfenced}
+use Rattle.sessions.specs.Sights.{Finds, IsCutAt}
+use Rattle.sessions.proofs.Later.{all_readers, all_self, all_set, reader_same, sight_of}
+use Rattle.sessions.proofs.Looks.{looked_again, looked_unread}
+use Rattle.sessions.proofs.Shards.{reader_in_all}
+use Rattle.protocol.proofs.Lists.{set_at}
+
+-- ---- places
+pub got_at : {X : Type 0} (xs : List X) (i : ℕ) (x : X) → i < length xs → x ≡ get_or xs i x → slice_get xs i ≡ Some x
+got_at [] i x lt e = absurd (omega (arith, lt))
+got_at (y ∷ xs) zero x lt e = ap Some (sym e)
+got_at (y ∷ xs) (suc i) x lt e = got_at xs i x (omega (arith, lt)) e
+
+got_code : (xs : List Code) (n : ℕ) (r : Reader) → slice_get (map reader_in xs) n ≡ Some r → (c : Code) × (slice_get xs n ≡ Some c) × (reader_in c ≡ r)
+got_code [] n r at = cc
+got_code (x ∷ xs) zero r at = (x, refl, cc)
+got_code (x ∷ xs) (suc n) r at = got_code xs n r at
+
+reader_passes : (i j : ℕ) → is_reader i j (record { view = i; shard = j }) ≡ true
+reader_passes i j = rw (is_same i) (is_same j)
+
+pub place_there : (p : Layout) (xs : List Code) (i j : ℕ) → map reader_in xs ≡ readers p → i < length p.views → j < (view_at p i).shards → (n : ℕ) × (position (λ r. is_reader i j (reader_in r)) xs ≡ Some n)
+place_there p xs i j are lt lj =
+    let r = reader_in_all p i j lt lj in
+    let c = got_code xs r.0 (record { view = i; shard = j }) (ap (λ rs. slice_get rs r.0) are ∙ r.1) in
+    is_found (λ r. is_reader i j (reader_in r)) xs r.0 c.0 c.1 (ap (is_reader i j) c.2 ∙ reader_passes i j)
+
+pub not_none : (o : Option ℕ) (n : ℕ) → o ≡ None → o ≡ Some n → ⊥
+not_none o n a b = cc (sym a ∙ b)
+
+-- ---- one look
+module _ (p : Layout) (shown : List Snapshot) (n v j : ℕ) (x y : Snapshot) where
+  pub look_later : slice_get shown n ≡ Some x → IsLater x y → AreLater shown (slice_set shown n y)
+  look_later there later = all_set shown n x y there later
+
+  pub look_are : map reader_of shown ≡ readers p → slice_get shown n ≡ Some x → IsLater x y → map reader_of (slice_set shown n y) ≡ readers p
+  look_are are there later = all_readers shown (slice_set shown n y) (look_later there later) ∙ are
+
+  pub look_sight : map reader_of shown ≡ readers p → slice_get (readers p) n ≡ Some (record { view = v; shard = j }) → slice_get shown n ≡ Some x → IsLater x y → IsSight (slice_set shown n y) v j y
+  look_sight are at there later = record {
+    place = n;
+    there = set_at shown n y x there;
+    of = reader_same x y later ∙ sight_of p shown are n v j x there at;
+  }
+
+module _ (p : Layout) (shown : List Snapshot) (v : ℕ) (key : Value) (y : Snapshot) where
+  truth_at : (rows : List Cells) → IsTrue p y → reader_of y ≡ record { view = v; shard = view_shard p v (datum_of key) } → shown_at y.rows (datum_of key) ≡ Some rows → rows ≡ answer p y.cut v (datum_of key)
+  truth_at rows t of at =
+      let ev : y.view ≡ v = ap (λ (r : Reader). r.view) of in
+      let ej : y.shard ≡ view_shard p v (datum_of key) = ap (λ (r : Reader). r.shard) of in
+      let e : view_shard p y.view (datum_of key) ≡ y.shard = ap (λ m. view_shard p m (datum_of key)) ev ∙ sym ej in
+      subst (λ (o : Option (List Cells)). IfSome o (λ rs. rs ≡ answer p y.cut y.view (datum_of key))) at (t.rows key e) ∙ ap (λ m. answer p y.cut m (datum_of key)) ev
+
+  pub finds : {J : Type 0} (r : Result (Look J) Refused) → IsSight shown v (view_shard p v (datum_of key)) y → IfOk r (λ _. IsTrue p y)
+      → IfOk r (OnHit (λ rows cut. (shown_at y.rows (datum_of key) ≡ Some rows) × (cut.lengths ≡ y.lengths) × (fronts p cut ≡ y.cut))) → IfOk r (OnHit (λ rows cut. Finds p shown v (datum_of key) rows cut))
+  finds (Ok (Hit rows cut)) is t h = record { sight = y; is = is; rows = h.0; answers = truth_at rows t is.of h.0; cut = h.1; fronts = h.2 }
+  finds (Ok Miss) is t h = tt
+  finds (Err e) is t h = tt
+
+  pub hides : {J : Type 0} (r : Result (Look J) Refused) → IsSight shown v (view_shard p v (datum_of key)) y → IfOk r (OnMiss (shown_at y.rows (datum_of key) ≡ None)) → IfOk r (OnMiss (IsHidden p shown v (datum_of key)))
+  hides (Ok (Hit rows cut)) is h = tt
+  hides (Ok Miss) is h = record { sight = y; is = is; none = h }
+  hides (Err e) is h = tt
+
+-- ---- the session as it was
+pub same_looked : (c : Caller) → HasLooked c c
+same_looked c = record { looked = all_self c.shown; after = refl }
+
+pub quiet : (c : Caller) (e : Refused) → (e ≡ NoMemory) ⊎ (e ≡ Stopped) → IsUnanswered c c e
+quiet c e (inl m) = inl (record { after = refl; looked = all_self c.shown; number = inl refl; grown = prefix_self c.seen; why = inl (m, refl, refl) })
+quiet c e (inr s) = inr (inl s, same_looked c)
+
+pub unread : (c : Caller) (e : Refused) → e ≡ NoMemory → IsUnread c c e
+unread c e m = record { after = refl; looked = all_self c.shown; number = inl refl; grown = prefix_self c.seen; why = inl (m, refl, refl) }
+
+pub looked_unanswered : (p : Layout) (old mid new : Caller) (e : Refused) → HasLooked old mid → IsUnanswered mid new e → IsUnanswered old new e
+looked_unanswered p old mid new e x (inl u) = inl (looked_unread p old mid new x e u)
+looked_unanswered p old mid new e x (inr r) = inr (r.0, looked_again p old mid new x r.1)
+
+pub within : (p : Layout) (xs : List Code) (shown : List Snapshot) (n : ℕ) → map reader_in xs ≡ readers p → map reader_of shown ≡ readers p → n < length xs → n < length shown
+within p xs shown n a b lt = omega (arith, lt, length-map xs reader_in, length-map shown reader_of, ap length a, ap length b)
+
+pub within_all : (p : Layout) (xs : List Code) (n : ℕ) → map reader_in xs ≡ readers p → n < length xs → n < length (readers p)
+within_all p xs n a lt = omega (arith, lt, length-map xs reader_in, ap length a)
+
+pub busy : (c : Caller) (e : Refused) → e ≡ Busy → IsUnanswered c c e
+busy c e b = inr (inr b, same_looked c)
+
+pub err_to : {A : Type 0} (P Q : Refused → Type 0) (r : Result A Refused) → ((e : Refused) → P e → Q e) → IfErr r P → IfErr r Q
+err_to P Q (Ok a) g h = tt
+err_to P Q (Err e) g h = g e h
+
+-- the cut of the snapshot at a place
+pub cut_there : (p : Layout) (shown : List Snapshot) (n : ℕ) (x y : Snapshot) → slice_get shown n ≡ Some x → IsLater x y → (r : Result CutView Refused) → IfOk r (λ c. (c.lengths ≡ y.lengths) × (fronts p c ≡ y.cut)) → IfOk r (λ c. IsCutAt shown (slice_set shown n y) n c)
+cut_there p shown n x y there later (Ok c) h = record { was = x; is = y; there = there; later = later; set = refl; cut = h.0 }
+cut_there p shown n x y there later (Err e) h = tt
+
+-- ---- fences
+pub unfenced : (c : Caller) (e : Refused) → e ≡ NoMemory → IsUnfenced c c e
+unfenced c e m = record { after = refl; looked = all_self c.shown; grown = prefix_self c.seen; number = inl refl; why = inl (inl m, refl, refl) }
+
+pub unsent : (e : Refused) → (e ≡ NoMemory) ⊎ (e ≡ Stopped) → (e ≡ NoMemory) ⊎ (e ≡ Stopped) ⊎ (e ≡ Behind)
+unsent e (inl a) = inl a
+unsent e (inr a) = inr (inl a)
+
+pub ok_to : {A : Type 0} (P Q : Type 0) (r : Result A Refused) → (P → Q) → OnOk r P → OnOk r Q
+ok_to P Q (Ok a) g h = g h
+ok_to P Q (Err e) g h = tt

@@ -1,0 +1,8 @@
+mod Shards
+mod Later
+mod Callers
+mod Cuts
+mod Looks
+mod Found
+mod Floored
+pub mod Counts

@@ -1,0 +1,10 @@
+use Rattle.std.proofs.Common.{◌<◌}
+use Rattle.base_domain.specs.Received.{last_number}
+use Rattle.sessions.specs.Reads.{HasLooked}
+use Rattle.sessions.proofs.session.Session.read_by_turns.Given as goal
+
+abbrev pub invariant-loop-turn : goal.invariant-loop-turn
+invariant-loop-turn g l = record {
+  looked : HasLooked l.fn.self l.self;
+  number : l.self.number < last_number;
+}

@@ -1,0 +1,317 @@
+//! Reads of a session.
+ghost use Rattle.std.specs.Prelude.{◌≡◌, ◌⊎◌, ◌<◌, IfOk, OnOk, IfErr, IfSome, Some, length, map};
+ghost use Rattle.std.specs.Prelude.{slice_get};
+ghost use Rattle.row.specs.Cells.{datum_of};
+ghost use Rattle.plan.specs.Layouts.{view_at};
+ghost use Rattle.model.specs.Histories.{view_shard};
+ghost use Rattle.model.specs.Legal.{IsLegal};
+ghost use Rattle.base_domain.specs.Received.{last_number};
+ghost use Rattle.packet.specs.Readers.{readers};
+ghost use Rattle.shown.specs.Looks.{OnHit as OnShown, OnMiss as OnHidden};
+ghost use Rattle.sessions.specs.Reads.{IsHidden};
+
+use crate::session::Session;
+use crate::turns::ReadTurns;
+use book::cut::Cut;
+use book::law::Naming;
+use calls::want::fill;
+use model::lengths::Lengths;
+use plan::plan::Plan;
+use routes::routes::Routes;
+use row::bag::Bag;
+use row::refused::Refused;
+use row::row::Row;
+use row::value::{Value, shard_of};
+use schedule::arguments::read_target;
+use schedule::readers::place_of;
+use shown::reader::Look;
+use std::alloc::{AllocError, Global};
+use std::sync::Wait;
+
+/// The rows of a key in order, and the cut over which they are the query's.
+#[derive(Drop)]
+pub struct Answer {
+    pub rows: Vec<Row>,
+    pub cut: Lengths,
+}
+
+/// What a try of a read found: an answer, or that the key is not shown.
+#[derive(Drop)]
+pub enum Found {
+    Hit(Answer),
+    Miss,
+}
+
+impl<J: Naming> Session<J> {
+    ghost use Rattle.sessions.specs.Reads.{HasLooked, IsMissed, IsRead, IsUnanswered, IsUnread};
+    ghost use Rattle.sessions.specs.Reads.{Misses, OnHit, OnMiss, Reads, asked_refusal};
+    ghost use Rattle.sessions.specs.Sights.{Finds};
+
+    /// Looks a key of a view up in what is shown, and makes a hit an answer, as one step. It waits
+    /// for nobody, and is answered after a stop too. A hit is what the look found: the query's rows
+    /// for the key over the cut that it names, which is never below the session's floor there. A
+    /// miss changes nothing.
+    ///
+    /// Refused with, looked for in this order: `Stolen` where the session's call numbers are spent or
+    /// its word was found moved before, `UnknownView`, `BadKey` where the key is no cell of the key
+    /// column; then `NoMemory`, or `Stolen` where its word was moved by another. A refused read leaves
+    /// the floors and what was accepted, and but for `Stolen` what was seen. Cost: a look at each
+    /// view's name, one look-up and two copies of the rows and of the cut.
+    pub fn try_read(&mut self, alloc: Global, view: &str, key: &Value) -> Result<Found, Refused>
+        ensures legal { IsLegal J.plan J.sessions self.new.seen }
+        ensures why { IfSome (asked_refusal J.plan self.old view.now (datum_of key.now))
+            (λ e. (result ≡ Err e) × (self.new ≡ self.old)) }
+        ensures hit { IfOk result (OnHit (λ rows cut.
+            Reads J.plan self.old self.new view.now (datum_of key.now) rows cut)) }
+        ensures miss { IfOk result (OnMiss
+            (Misses J.plan self.old self.new view.now (datum_of key.now))) }
+        ensures refused { IfErr result (λ e. (asked_refusal J.plan self.old view.now
+            (datum_of key.now) ≡ Some e) ⊎ IsUnread self.old self.new e) }
+    {
+        let answer = self.try_view(alloc, view, key);
+        self.seen.is_legal();
+        answer
+    }
+
+    fn try_view(&mut self, alloc: Global, view: &str, key: &Value) -> Result<Found, Refused>
+        ensures why { IfSome (asked_refusal J.plan self.old view.now (datum_of key.now))
+            (λ e. (result ≡ Err e) × (self.new ≡ self.old)) }
+        ensures hit { IfOk result (OnHit (λ rows cut.
+            Reads J.plan self.old self.new view.now (datum_of key.now) rows cut)) }
+        ensures miss { IfOk result (OnMiss
+            (Misses J.plan self.old self.new view.now (datum_of key.now))) }
+        ensures refused { IfErr result (λ e. (asked_refusal J.plan self.old view.now
+            (datum_of key.now) ≡ Some e) ⊎ IsUnread self.old self.new e) }
+    {
+        if self.is_spent() {
+            return Err(Refused::Stolen);
+        }
+        let view = read_target(self.plan(), view, key)?;
+        self.look(alloc, view, key)
+    }
+
+    // Looks the key up, and answers with a hit.
+    fn look(&mut self, alloc: Global, view: usize, key: &Value) -> Result<Found, Refused>
+        requires view { view < length J.plan.views }
+        requires number { self.old.number < last_number }
+        ensures hit { IfOk result (OnHit (λ rows cut.
+            IsRead J.plan self.old self.new view (datum_of key.now) rows cut)) }
+        ensures miss { IfOk result (OnMiss
+            (IsMissed J.plan self.old self.new view (datum_of key.now))) }
+        ensures refused { IfErr result (λ e. IsUnread self.old self.new e) }
+    {
+        let found = match self.find(alloc, view, key) {
+            Ok(found) => found,
+            Err(refused) => return Err(refused),
+        };
+        match found {
+            Look::Miss => Ok(Found::Miss),
+            Look::Hit(rows, cut) => match self.answer(alloc, view, key, &rows, cut) {
+                Ok(answer) => Ok(Found::Hit(answer)),
+                Err(refused) => Err(refused),
+            },
+        }
+    }
+
+    // Looks the key up in what is shown of its view shard.
+    fn find(&mut self, alloc: Global, view: usize, key: &Value) -> Result<Look<J>, Refused>
+        requires view { view < length J.plan.views }
+        ensures looked { HasLooked self.old self.new }
+        ensures hit { IfOk result (OnShown (λ rows cut.
+            Finds J.plan self.new.shown view (datum_of key.now) rows cut)) }
+        ensures miss { IfOk result (OnHidden
+            (IsHidden J.plan self.new.shown view (datum_of key.now))) }
+        ensures only { IfErr result (λ e. e ≡ Refused.NoMemory) }
+    {
+        let place = key_place(&self.routes, view, key);
+        self.sights.look(alloc, place, view, key)
+    }
+
+    // Answers with what was looked at.
+    fn answer(
+        &mut self,
+        alloc: Global,
+        view: usize,
+        key: &Value,
+        rows: &Bag,
+        cut: Cut<J>,
+    ) -> Result<Answer, Refused>
+        requires view { view < length J.plan.views }
+        requires number { self.old.number < last_number }
+        requires found { Finds J.plan self.old.shown view (datum_of key.now) rows.now cut }
+        ensures read { IfOk result (λ a.
+            IsRead J.plan self.old self.new view (datum_of key.now) a.rows.items a.cut) }
+        ensures refused { IfErr result (λ e. IsUnread self.old self.new e) }
+    {
+        let rows = rows_of(alloc, rows)?;
+        let lengths = cut.lengths().try_clone(alloc)?;
+        let shard = key_shard(self.plan(), view, key);
+        self.number += 1;
+        self.word.learn(&self.seen);
+        let answered = self
+            .word
+            .answer(self.routes.book(), view, shard, key, &rows, cut);
+        self.seen = self.word.part();
+        match answered {
+            Ok(()) => Ok(Answer { rows, cut: lengths }),
+            Err(_) => {
+                self.stolen = true;
+                Err(Refused::Stolen)
+            }
+        }
+    }
+
+    /// Reads a key of a view: tries as `try_read`, and at a miss asks the key's view shard to fill the
+    /// key, waits until it was filled there, and tries again. An answer is that of the last try.
+    ///
+    /// Refused as `try_read` is; at a miss then with `Stopped` where the view shard, a stage shard or
+    /// a source has stopped, or the store; `Busy` at the 64th miss; `Stolen` where the numbers of the
+    /// session's waits are spent. A refused read leaves the floors and what was accepted, and but for
+    /// `Stolen` what was seen. Cost: for each miss that of a look-up, two copies of the key, one
+    /// message and one wait.
+    pub fn read<R: Wait>(
+        &mut self,
+        rt: &R,
+        alloc: Global,
+        view: &str,
+        key: &Value,
+    ) -> Result<Answer, Refused>
+        ensures legal { IsLegal J.plan J.sessions self.new.seen }
+        ensures why { IfSome (asked_refusal J.plan self.old view.now (datum_of key.now))
+            (λ e. (result ≡ Err e) × (self.new ≡ self.old)) }
+        ensures answer { IfOk result (λ a.
+            Reads J.plan self.old self.new view.now (datum_of key.now) a.rows.items a.cut) }
+        ensures refused { IfErr result (λ e. (asked_refusal J.plan self.old view.now
+            (datum_of key.now) ≡ Some e) ⊎ IsUnanswered self.old self.new e) }
+    {
+        let answer = self.read_view(rt, alloc, view, key);
+        self.seen.is_legal();
+        answer
+    }
+
+    fn read_view<R: Wait>(
+        &mut self,
+        rt: &R,
+        alloc: Global,
+        view: &str,
+        key: &Value,
+    ) -> Result<Answer, Refused>
+        ensures why { IfSome (asked_refusal J.plan self.old view.now (datum_of key.now))
+            (λ e. (result ≡ Err e) × (self.new ≡ self.old)) }
+        ensures answer { IfOk result (λ a.
+            Reads J.plan self.old self.new view.now (datum_of key.now) a.rows.items a.cut) }
+        ensures refused { IfErr result (λ e. (asked_refusal J.plan self.old view.now
+            (datum_of key.now) ≡ Some e) ⊎ IsUnanswered self.old self.new e) }
+    {
+        if self.is_spent() {
+            return Err(Refused::Stolen);
+        }
+        let view = read_target(self.plan(), view, key)?;
+        self.read_by_turns(rt, alloc, view, key)
+    }
+
+    // Tries, and asks and waits at each miss.
+    fn read_by_turns<R: Wait>(
+        &mut self,
+        rt: &R,
+        alloc: Global,
+        view: usize,
+        key: &Value,
+    ) -> Result<Answer, Refused>
+        requires view { view < length J.plan.views }
+        requires number { self.old.number < last_number }
+        ensures answer { IfOk result (λ a.
+            IsRead J.plan self.old self.new view (datum_of key.now) a.rows.items a.cut) }
+        ensures refused { IfErr result (λ e. IsUnanswered self.old self.new e) }
+    {
+        let mut turns = ReadTurns::new();
+        for _turn in rt.forever() {
+            let found = match self.look(alloc, view, key) {
+                Ok(found) => found,
+                Err(refused) => return Err(refused),
+            };
+            match found {
+                Found::Hit(answer) => return Ok(answer),
+                Found::Miss => (),
+            }
+            match self.wait_for(rt, alloc, view, key, &mut turns) {
+                Ok(()) => (),
+                Err(refused) => return Err(refused),
+            }
+        }
+        unreachable!()
+    }
+
+    // Counts a miss, asks the key's view shard for the key, and waits until it was filled there.
+    fn wait_for<R: Wait>(
+        &mut self,
+        rt: &R,
+        alloc: Global,
+        view: usize,
+        key: &Value,
+        turns: &mut ReadTurns,
+    ) -> Result<(), Refused>
+        requires view { view < length J.plan.views }
+        ensures waited { OnOk result (self.new ≡ self.old) }
+        ensures refused { IfErr result (λ e. IsUnanswered self.old self.new e) }
+    {
+        let place = key_place(&self.routes, view, key);
+        if self.routes.is_cut_off(place) {
+            return Err(Refused::Stopped);
+        }
+        if let Err(refused) = turns.miss() {
+            return Err(refused);
+        }
+        if self.waits == u64::MAX {
+            self.stolen = true;
+            return Err(Refused::Stolen);
+        }
+        let number = self.waits;
+        self.waits += 1;
+        fill(
+            rt,
+            alloc,
+            &self.routes,
+            place,
+            self.word.number(),
+            number,
+            key,
+        )
+    }
+}
+
+// The shard of the view that has the key.
+pub(crate) fn key_shard(plan: &Plan, view: usize, key: &Value) -> usize
+    requires { view < length plan.now.views }
+    ensures shard { result ≡ view_shard plan.now view (datum_of key.now) }
+    ensures range { result < (view_at plan.now view).shards }
+{
+    plan.keeps_profile();
+    shard_of(key, plan.view(view).shards())
+}
+
+// The place of the key's view shard among all of them.
+pub(crate) fn key_place<J: Naming>(routes: &Routes<J>, view: usize, key: &Value) -> usize
+    requires { view < length J.plan.views }
+    ensures { slice_get (readers J.plan) result ≡ Some (record {
+      view = view;
+      shard = view_shard J.plan view (datum_of key.now);
+    }) }
+{
+    let shard = key_shard(routes.plan(), view, key);
+    match place_of(routes.readers(), view, shard) {
+        Some(place) => place,
+        None => unreachable!(),
+    }
+}
+
+// The rows of a bag, in order.
+fn rows_of(alloc: Global, bag: &Bag) -> Result<Vec<Row>, AllocError>
+    ensures { IfOk result (λ v. v.items ≡ bag.now) }
+{
+    let mut rows = Vec::new(alloc);
+    for row in bag.rows() {
+        rows.push(row.try_clone(alloc)?)?;
+    }
+    Ok(rows)
+}
