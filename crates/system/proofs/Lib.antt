@@ -1,5 +1,1 @@
-pub mod Histories
-pub mod Callers
-pub mod Fences
-pub mod Singles
-pub mod Looks
+pub mod Started

@@ -1,14 +1,5 @@
-//! The running store: a thread for each base shard and one for the shown answers of the view, and
-//! sessions that its callers hold.
+//! The store as it runs: its threads, and the sessions that it gives.
 #![tactic(auto)]
 
-mod call;
-mod fence;
-mod queue;
-pub mod read;
-mod served;
-pub mod session;
-mod shared;
+mod domains;
 pub mod system;
-mod view_worker;
-mod worker;

@@ -1,10 +1,10 @@
-//! Tests of base shards, of their domains, of shown copies, and of sessions of running systems.
+//! Tests of base shards, and of sessions of running systems.
 #![tactic(auto)]
 
 #[cfg(test)]
-mod calls;
+mod asks;
 #[cfg(test)]
-mod domains;
+mod callers;
 #[cfg(test)]
 mod notes;
 #[cfg(test)]
@@ -12,10 +12,6 @@ mod reads;
 #[cfg(test)]
 mod runs;
 #[cfg(test)]
-mod sessions;
-#[cfg(test)]
 mod shards;
-#[cfg(test)]
-mod shown;
 #[cfg(test)]
 mod steps;

@@ -1,14 +1,14 @@
 //! Reads of several sessions beside the writes of another one.
-use crate::calls::{fail, fence, next, wrong};
+use crate::asks::{fail, fence, next, wrong};
 use crate::runs::{Scene, run};
 use crate::steps::{Call, Told, answer};
 use book::law::Naming;
 use row::refused::Refused;
+use sessions::session::Session;
 use std::alloc::Global;
 use std::sync::Wait;
 use std::test::Fail;
 use std::thread::{self, JoinHandle, Threads};
-use system::session::Session;
 use system::system::System;
 
 #[test]

@@ -1,10 +1,9 @@
-//! What each test does with a book, a domain, a shown copy or a running system of the built-in
-//! plan, which are all begun in one place.
+//! What each test does with a running system of the built-in plan, which is begun in one place.
 ghost use Rattle.std.specs.Prelude.{◌≡◌, ◌<◌};
 ghost use Rattle.plan.specs.Recipes.{notes_plan};
 
-use crate::calls::fail;
-use crate::{domains, reads, sessions, shown};
+use crate::asks::fail;
+use crate::{callers, reads};
 use book::book::Opened;
 use book::law::Naming;
 use plan::plan::Plan;
@@ -14,12 +13,11 @@ use std::sync::Wait;
 use std::test::Fail;
 use std::thread::Threads;
 use system::system::System;
+use workers::gate::OpenGate;
 
 /// What is done, and asked of what comes of it.
 #[derive(Clone, Copy)]
 pub enum Scene {
-    Messages,
-    Looks,
     OneSession,
     FourSessions,
     Meeting,
@@ -54,13 +52,9 @@ fn run_named<J: Naming + Send + Sync + 'static, R: Threads + Wait + Copy + Drop 
     requires sessions { (opened.sessions ≡ J.sessions) × (sessions ≡ J.sessions) }
     requires few { sessions < 17 }
 {
-    match scene {
-        Scene::Messages => domains::takes_messages::<J>(alloc, opened, &plan),
-        Scene::Looks => shown::looks::<J, R>(rt, alloc, opened, &plan),
-        _ => match System::<J>::start(rt, alloc, opened, plan, sessions) {
-            Ok(system) => play(rt, alloc, system, scene),
-            Err(refused) => Err(fail(refused)),
-        },
+    match System::<J>::start(rt, alloc, opened, plan, sessions, OpenGate) {
+        Ok(system) => play(rt, alloc, system, scene),
+        Err(refused) => Err(fail(refused)),
     }
 }
 
@@ -72,11 +66,11 @@ fn play<J: Naming + Send + Sync + 'static, R: Threads + Wait + Copy + Drop + Sen
     scene: Scene,
 ) -> Result<(), Fail> {
     let played = match scene {
-        Scene::OneSession => sessions::calls_of_one(&rt, alloc, &mut system),
-        Scene::FourSessions => sessions::calls_of_four(rt, alloc, &mut system),
-        Scene::Meeting => sessions::calls_of_two(&rt, alloc, &mut system),
+        Scene::OneSession => callers::calls_of_one(&rt, alloc, &mut system),
+        Scene::FourSessions => callers::calls_of_four(rt, alloc, &mut system),
+        Scene::Meeting => callers::calls_of_two(&rt, alloc, &mut system),
         Scene::ReadsBeside => reads::reads_beside(rt, alloc, &mut system),
-        _ => return sessions::calls_of_stopped(&rt, alloc, system),
+        _ => return callers::calls_of_stopped(&rt, alloc, system),
     };
     system.stop(&rt);
     played

@@ -3,7 +3,7 @@ ghost use Rattle.std.specs.Prelude.{◌≡◌, ◌≢◌};
 ghost use Rattle.model.specs.Entries.{change_of};
 ghost use Rattle.base.specs.Shards.{HasKey};
 
-use crate::calls::{fail, wrong};
+use crate::asks::{fail, wrong};
 use crate::notes::{Change, Signed, are_signed, entry_of, is_note};
 use base::part::Part;
 use base::shard::BaseShard;

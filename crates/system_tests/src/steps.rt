@@ -1,5 +1,5 @@
 //! Calls of one session after the other, each with its answer.
-use crate::calls::{fail, fence, look, write, wrong};
+use crate::asks::{fail, fence, look, write, wrong};
 use crate::notes::note;
 use book::law::Naming;
 use model::entry::Entry;
@@ -10,11 +10,11 @@ use plan::plan::Plan;
 use row::refused::Refused;
 use row::row::Row;
 use row::value::Value;
+use sessions::reads::{Answer, Found};
+use sessions::session::{Accepted, Session};
 use std::alloc::{AllocError, Global};
 use std::sync::Wait;
 use std::test::Fail;
-use system::read::{Answer, Found};
-use system::session::{Accepted, Session};
 
 const NOTES: &str = "notes";
 
@@ -83,10 +83,10 @@ pub fn answer<J: Naming, R: Wait>(
         return Ok(told_of(write(rt, alloc, session, table, entry)?));
     }
     match call {
-        Call::Read(author) => tell_rows(alloc, session, VIEW, author, true),
-        Call::TryRead(view, author) => tell_rows(alloc, session, view, author, false),
+        Call::Read(author) => tell_rows(rt, alloc, session, VIEW, author, true),
+        Call::TryRead(view, author) => tell_rows(rt, alloc, session, view, author, false),
         Call::ReadText => {
-            look(alloc, session, VIEW, &text(alloc)?, true)?;
+            look(rt, alloc, session, VIEW, &text(alloc)?, true)?;
             Ok(Told::Wrong)
         }
         _ => {
@@ -108,14 +108,15 @@ fn written_by(alloc: Global, call: Call) -> Result<Option<(&'static str, Entry)>
     })
 }
 
-fn tell_rows<J: Naming>(
+fn tell_rows<J: Naming, R: Wait>(
+    rt: &R,
     alloc: Global,
     session: &mut Session<J>,
     view: &str,
     author: i128,
     waits: bool,
 ) -> Result<Told, Refused> {
-    match look(alloc, session, view, &Value::Int(author), waits)? {
+    match look(rt, alloc, session, view, &Value::Int(author), waits)? {
         Found::Hit(answer) => Ok(compared(alloc, session.plan(), author, &answer)?),
         Found::Miss => Ok(Told::Miss),
     }

@@ -1,4 +1,0 @@
-pub mod Snapshots
-pub mod Sights
-pub mod Looks
-pub mod Boards
