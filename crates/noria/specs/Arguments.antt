@@ -1,5 +1,5 @@
--- Which words are a run of the program.
-use Rattle.std.specs.Prelude.{ℕ, Bool, false, List, [], ◌∷◌, codes}
+-- Which words are a form of the program.
+use Rattle.std.specs.Prelude.{ℕ, Bool, false, ◌||◌, List, [], ◌∷◌, codes}
 use Rattle.std.specs.Str.{bytes_eq}
 
 -- `run RECIPE SCRIPT`
@@ -9,3 +9,14 @@ is_run (a ∷ []) = false
 is_run (a ∷ b ∷ []) = false
 is_run (a ∷ b ∷ c ∷ []) = bytes_eq a (codes "run")
 is_run (a ∷ b ∷ c ∷ d ∷ more) = false
+
+-- `race RECIPE SCRIPT..`, with at least one script
+abbrev pub is_race : List (List ℕ) → Bool
+is_race [] = false
+is_race (a ∷ []) = false
+is_race (a ∷ b ∷ []) = false
+is_race (a ∷ b ∷ c ∷ more) = bytes_eq a (codes "race")
+
+-- one of the forms
+abbrev pub is_form : List (List ℕ) → Bool
+is_form words = is_run words || is_race words

@@ -1,8 +1,9 @@
 //! The command line.
 ghost use Rattle.std.specs.Prelude.{◌≡◌, ◌≤◌, ◌==◌, is_some, map, not, string_bytes};
-ghost use Rattle.noria.specs.Arguments.{is_run};
+ghost use Rattle.noria.specs.Arguments.{is_form, is_race, is_run};
 
 use crate::fault::Fault;
+use crate::race::race_files;
 use crate::runner::run_files;
 use crate::texts::Texts;
 use std::alloc::Global;
@@ -16,9 +17,9 @@ const USAGE: &str =
 
 /// Runs the program on the words behind its name, and gives the exit status: 0 where all was run,
 /// also where single calls were refused; 1 where a recipe, a script, the start, a file, the memory
-/// or the output was refused, with the refusal on `err`; 2 for any words but `run RECIPE SCRIPT`,
-/// with the usage line there. A failed write to `err` leaves the status as it is. All threads that
-/// it starts have ended.
+/// or the output was refused, with the refusal on `err`; 2 for any words but `run RECIPE SCRIPT` and
+/// `race RECIPE SCRIPT..`, with the usage line there. A failed write to `err` leaves the status as it
+/// is. All threads that it starts have ended.
 pub fn command<R: Threads + Wait + Copy + Drop + Send + 'static, T: Texts, O: Write, E: Write>(
     rt: R,
     alloc: Global,
@@ -28,13 +29,17 @@ pub fn command<R: Threads + Wait + Copy + Drop + Send + 'static, T: Texts, O: Wr
     err: &mut E,
 ) -> u8
     ensures status { result ≤ 2 }
-    ensures usage { (result == 2) ≡ not (is_run (map string_bytes words.now)) }
+    ensures usage { (result == 2) ≡ not (is_form (map string_bytes words.now)) }
 {
-    let Some((recipe, script)) = files_named(words) else {
+    let ran = if let Some((recipe, script)) = run_of(words) {
+        run_files(rt, alloc, recipe, script, texts, out)
+    } else if let Some((recipe, scripts)) = race_of(words) {
+        race_files(rt, alloc, recipe, scripts, texts, out)
+    } else {
         let _ = writeln!(err, "{USAGE}");
         return 2;
     };
-    match run_files(rt, alloc, recipe, script, texts, out) {
+    match ran {
         Ok(()) => 0,
         Err(fault) => {
             let _ = writeln!(err, "{fault}");
@@ -44,13 +49,23 @@ pub fn command<R: Threads + Wait + Copy + Drop + Send + 'static, T: Texts, O: Wr
 }
 
 // The names of the recipe and the script, where the words are `run RECIPE SCRIPT`.
-fn files_named(words: &[String]) -> Option<(&str, &str)>
+fn run_of(words: &[String]) -> Option<(&str, &str)>
     ensures { is_some result ≡ is_run (map string_bytes words.now) }
 {
     match words {
         [run, recipe, script] if run.as_str() == "run" => {
             Some((recipe.as_str(), script.as_str()))
         }
+        _ => None,
+    }
+}
+
+// The names of the recipe and the scripts, where the words are `race RECIPE SCRIPT..`.
+fn race_of(words: &[String]) -> Option<(&str, &[String])>
+    ensures { is_some result ≡ is_race (map string_bytes words.now) }
+{
+    match words {
+        [race, recipe, _, ..] if race.as_str() == "race" => Some((recipe.as_str(), &words[2..])),
         _ => None,
     }
 }

@@ -1,8 +1,11 @@
-//! The program: one session runs a script over the plan of a recipe.
+//! The program: sessions run scripts over the plan of a recipe.
 #![tactic(auto)]
 
+mod answers;
 mod command;
 mod fault;
+mod files;
+mod race;
 mod reads;
 mod runner;
 mod texts;

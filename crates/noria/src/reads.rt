@@ -2,19 +2,20 @@
 ghost use Rattle.std.specs.Prelude.{◌≡◌};
 ghost use Rattle.noria.specs.Keys.{kind_of_key};
 
-use crate::fault::Fault;
 use book::law::Naming;
 use plan::kinds::Kind;
 use plan::plan::Plan;
 use row::refused::Refused;
 use script::cell::value_of;
+use sessions::reads::{Answer, Found};
+use sessions::session::Session;
 use std::alloc::Global;
 use std::io::{self, Write};
-use system::read::{Answer, Found};
-use system::session::Session;
+use std::sync::Wait;
 
 /// The rows of the key that the word is in the view: `read`, or else tried where they are shown.
-pub fn look<J: Naming>(
+pub fn look<J: Naming, R: Wait>(
+    rt: &R,
     alloc: Global,
     session: &mut Session<J>,
     read: bool,
@@ -23,10 +24,22 @@ pub fn look<J: Naming>(
 ) -> Result<Found, Refused> {
     let key = value_of(alloc, kind_of_key(session.plan(), view), word)?;
     if read {
-        Ok(Found::Hit(session.read(alloc, view, &key)?))
+        Ok(Found::Hit(session.read(rt, alloc, view, &key)?))
     } else {
         session.try_read(alloc, view, &key)
     }
+}
+
+/// Orders the view's shard to forget the key that the word is.
+pub fn evict<J: Naming, R: Wait>(
+    rt: &R,
+    alloc: Global,
+    session: &mut Session<J>,
+    view: &str,
+    word: String,
+) -> Result<(), Refused> {
+    let key = value_of(alloc, kind_of_key(session.plan(), view), word)?;
+    session.evict_view(rt, alloc, view, &key)
 }
 
 // The kind by which a key of the view is read: that of its key column, and a text where there is no
@@ -43,12 +56,11 @@ fn kind_of_key(plan: &Plan, view: &str) -> Kind
     left.kind(key).unwrap_or(Kind::Text)
 }
 
-/// Writes `rows N cut CUT` and a line for each of the N rows, or `miss`, or the refusal.
-pub fn write_found<O: Write>(found: Result<Found, Refused>, out: &mut O) -> io::Result<()> {
+/// Writes `rows N cut CUT` and a line for each of the N rows, or `miss`.
+pub fn write_found<O: Write>(found: &Found, out: &mut O) -> io::Result<()> {
     match found {
-        Ok(Found::Hit(answer)) => write_rows(&answer, out),
-        Ok(Found::Miss) => writeln!(out, "miss"),
-        Err(refused) => writeln!(out, "{}", Fault::Refused(refused)),
+        Found::Hit(answer) => write_rows(answer, out),
+        Found::Miss => writeln!(out, "miss"),
     }
 }
 

@@ -1,18 +1,16 @@
-//! Writes to a table: a row or a key of its words, and the line of an answer.
+//! Writes to a table: a row or a key of its words.
 ghost use Rattle.std.specs.Prelude.{◌≡◌};
 ghost use Rattle.noria.specs.Keys.{kind_of_table};
 
-use crate::fault::Fault;
 use book::law::Naming;
 use plan::kinds::Kind;
 use plan::plan::Plan;
 use row::refused::Refused;
 use row::row::Row;
 use script::cell::value_of;
+use sessions::session::{Accepted, Session};
 use std::alloc::Global;
-use std::io::{self, Write};
 use std::sync::Wait;
-use system::session::{Accepted, Session};
 
 /// The words of a write behind its table: the cells of a row, or a key.
 #[derive(Drop)]
@@ -72,16 +70,4 @@ fn kind_of_table(plan: &Plan, table: &str) -> Kind
     };
     let table = plan.table(place);
     table.kind(table.key()).unwrap_or(Kind::Text)
-}
-
-/// Writes `accepted TABLE.SHARD INDEX`, or the refusal.
-pub fn write_accepted<O: Write>(
-    table: &str,
-    answer: Result<Accepted, Refused>,
-    out: &mut O,
-) -> io::Result<()> {
-    match answer {
-        Ok(Accepted { shard, index, .. }) => writeln!(out, "accepted {table}.{shard} {index}"),
-        Err(refused) => writeln!(out, "{}", Fault::Refused(refused)),
-    }
 }

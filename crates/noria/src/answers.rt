@@ -1,0 +1,77 @@
+//! A call of a script: what a session makes of it, and the lines of its answer.
+use crate::fault::Fault;
+use crate::reads::{evict, look, write_found};
+use crate::writes::{Words, write};
+use book::law::Naming;
+use row::refused::Refused;
+use script::command::Command;
+use sessions::reads::Found;
+use sessions::session::{Accepted, Session};
+use std::alloc::Global;
+use std::io::{self, Write};
+use std::sync::Wait;
+
+/// What a call that is not refused answers.
+#[derive(Drop)]
+pub enum Answered {
+    Accepted { table: String, accepted: Accepted },
+    Fenced,
+    Found(Found),
+    Sent,
+    Asked(u64),
+}
+
+/// Makes the call in a session. A `closing` is a read at its place.
+pub fn make<J: Naming, R: Wait>(
+    rt: &R,
+    alloc: Global,
+    session: &mut Session<J>,
+    command: Command,
+) -> Result<Answered, Refused> {
+    match command {
+        Command::Insert { table, cells } => {
+            let accepted = write(rt, alloc, session, table.as_str(), Words::Insert(cells))?;
+            Ok(Answered::Accepted { table, accepted })
+        }
+        Command::Update { table, cells } => {
+            let accepted = write(rt, alloc, session, table.as_str(), Words::Update(cells))?;
+            Ok(Answered::Accepted { table, accepted })
+        }
+        Command::Delete { table, key } => {
+            let accepted = write(rt, alloc, session, table.as_str(), Words::Delete(key))?;
+            Ok(Answered::Accepted { table, accepted })
+        }
+        Command::Fence => {
+            session.fence(rt, alloc)?;
+            Ok(Answered::Fenced)
+        }
+        Command::Try { view, key } => {
+            let found = look(rt, alloc, session, false, view.as_str(), key)?;
+            Ok(Answered::Found(found))
+        }
+        Command::Read { view, key } | Command::Closing { view, key } => {
+            let found = look(rt, alloc, session, true, view.as_str(), key)?;
+            Ok(Answered::Found(found))
+        }
+        Command::Evict { view, key } => {
+            evict(rt, alloc, session, view.as_str(), key)?;
+            Ok(Answered::Sent)
+        }
+        Command::Count { view } => Ok(Answered::Asked(session.asked(view.as_str())?)),
+    }
+}
+
+/// Writes the lines of an answer, or of a refusal.
+pub fn write_answer<O: Write>(answer: Result<Answered, Refused>, out: &mut O) -> io::Result<()> {
+    match answer {
+        Ok(Answered::Accepted { table, accepted }) => {
+            let Accepted { shard, index, .. } = accepted;
+            writeln!(out, "accepted {table}.{shard} {index}")
+        }
+        Ok(Answered::Fenced) => writeln!(out, "fenced"),
+        Ok(Answered::Found(found)) => write_found(&found, out),
+        Ok(Answered::Sent) => writeln!(out, "sent"),
+        Ok(Answered::Asked(asked)) => writeln!(out, "asked {asked}"),
+        Err(refused) => writeln!(out, "{}", Fault::Refused(refused)),
+    }
+}

@@ -1,0 +1,203 @@
+//! Races scripts: all of them at once, each in a session and a thread of its own.
+ghost use Rattle.std.specs.Prelude.{◌≡◌, ◌<◌};
+
+use crate::answers::{Answered, make, write_answer};
+use crate::fault::Fault;
+use crate::files::{calls_named, plan_named};
+use crate::texts::Texts;
+use book::book::Opened;
+use book::law::Naming;
+use plan::plan::Plan;
+use row::refused::Refused;
+use script::command::Command;
+use script::script::Call;
+use sessions::session::Session;
+use std::alloc::Global;
+use std::io::{BufWriter, Write};
+use std::marker::Brand;
+use std::sync::Wait;
+use std::thread::{self, JoinHandle, Threads};
+use system::system::System;
+use workers::gate::OpenGate;
+
+/// The most scripts: the sixteenth session makes the closing fence and reads.
+const SCRIPTS: usize = 15;
+
+/// Reads and checks the recipe and then the scripts of these names, starts the recipe's plan, and runs
+/// all scripts at once. It writes what each came to, then makes one fence in a session that has met
+/// all others, and the closing reads of all scripts in order. `NoSessionLeft` where there are more
+/// than fifteen scripts. All threads that it starts have ended.
+pub fn race_files<R: Threads + Wait + Copy + Drop + Send + 'static, T: Texts, O: Write>(
+    rt: R,
+    alloc: Global,
+    recipe: &str,
+    scripts: &[String],
+    texts: &mut T,
+    out: &mut O,
+) -> Result<(), Fault> {
+    let plan = plan_named(alloc, recipe, texts)?;
+    let mut all = Vec::new(alloc);
+    for script in scripts {
+        let calls = calls_named(alloc, script.as_str(), texts)?;
+        all.push(calls).map_err(|_| Refused::NoMemory)?;
+    }
+    if all.len() > SCRIPTS {
+        return Err(Fault::Refused(Refused::NoSessionLeft));
+    }
+    let sessions = all.len() + 1;
+    let opened = Opened::new(alloc, &plan, sessions)?;
+    race_calls::<Brand, R, O>(rt, alloc, opened, plan, sessions, all, out)
+}
+
+// Starts the system, and races the scripts in its sessions.
+fn race_calls<
+    J: Naming + Send + Sync + 'static,
+    R: Threads + Wait + Copy + Drop + Send + 'static,
+    O: Write,
+>(
+    rt: R,
+    alloc: Global,
+    opened: Opened,
+    plan: Plan,
+    sessions: usize,
+    scripts: Vec<Vec<Call>>,
+    out: &mut O,
+) -> Result<(), Fault>
+    requires book { opened.book ≡ J.book }
+    requires plan { (opened.plan ≡ J.plan) × (plan ≡ J.plan) }
+    requires sessions { (opened.sessions ≡ J.sessions) × (sessions ≡ J.sessions) }
+    requires few { sessions < 17 }
+{
+    let mut system = System::<J>::start(rt, alloc, opened, plan, sessions, OpenGate)?;
+    let answer = race(rt, alloc, &mut system, scripts, out);
+    system.stop(&rt);
+    answer
+}
+
+// What a script came to: its session, how many writes were accepted and calls refused, and its closing
+// reads, which were not made yet.
+#[derive(Drop)]
+struct Raced<J: Naming> {
+    session: Session<J>,
+    accepted: usize,
+    refused: usize,
+    closings: Vec<Command>,
+}
+
+fn race<
+    J: Naming + Send + Sync + 'static,
+    R: Threads + Wait + Copy + Drop + Send + 'static,
+    O: Write,
+>(
+    rt: R,
+    alloc: Global,
+    system: &mut System<J>,
+    scripts: Vec<Vec<Call>>,
+    out: &mut O,
+) -> Result<(), Fault> {
+    let mut runners = Vec::with_capacity(alloc, scripts.len())?;
+    let started = start_all(rt, alloc, system, scripts, &mut runners);
+    let raced = join_all(&rt, alloc, runners);
+    started?;
+    let session = system.session(alloc)?;
+    let mut out = BufWriter::new(alloc, out).map_err(|_| Refused::NoMemory)?;
+    tell(&rt, alloc, session, raced?, &mut out)?;
+    out.flush()
+        .map_err(|_| Fault::Refused(Refused::CannotWrite))
+}
+
+// Starts a thread for each script, with a session of its own.
+fn start_all<J: Naming + Send + Sync + 'static, R: Threads + Wait + Copy + Drop + Send + 'static>(
+    rt: R,
+    alloc: Global,
+    system: &mut System<J>,
+    scripts: Vec<Vec<Call>>,
+    runners: &mut Vec<JoinHandle<Result<Raced<J>, Refused>>>,
+) -> Result<(), Fault> {
+    for calls in scripts {
+        let session = system.session(alloc)?;
+        let work = move || run_script(&rt, alloc, session, calls);
+        let runner = thread::spawn(&rt, work).map_err(|_| Refused::NoMemory)?;
+        runners.push(runner).map_err(|_| Refused::NoMemory)?;
+    }
+    Ok(())
+}
+
+// Waits for all of them, also where one was refused memory.
+fn join_all<J: Naming, R: Threads + Wait>(
+    rt: &R,
+    alloc: Global,
+    runners: Vec<JoinHandle<Result<Raced<J>, Refused>>>,
+) -> Result<Vec<Raced<J>>, Refused> {
+    let mut raced = Vec::new(alloc);
+    let mut failed = None;
+    for runner in runners {
+        match runner.join(rt) {
+            Ok(one) => {
+                if raced.push(one).is_err() {
+                    failed = Some(Refused::NoMemory);
+                }
+            }
+            Err(refused) => failed = Some(refused),
+        }
+    }
+    match failed {
+        Some(refused) => Err(refused),
+        None => Ok(raced),
+    }
+}
+
+// Makes all calls but the closing reads.
+fn run_script<J: Naming, R: Wait>(
+    rt: &R,
+    alloc: Global,
+    session: Session<J>,
+    calls: Vec<Call>,
+) -> Result<Raced<J>, Refused> {
+    let mut raced = Raced {
+        session,
+        accepted: 0,
+        refused: 0,
+        closings: Vec::new(alloc),
+    };
+    for call in calls {
+        if let Command::Closing { .. } = call.command {
+            raced.closings.push(call.command)?;
+            continue;
+        }
+        match make(rt, alloc, &mut raced.session, call.command) {
+            Ok(Answered::Accepted { .. }) => raced.accepted = raced.accepted.saturating_add(1),
+            Ok(_) => (),
+            Err(_) => raced.refused = raced.refused.saturating_add(1),
+        }
+    }
+    Ok(raced)
+}
+
+// Writes what each script came to, meets all sessions, and makes the closing fence and reads.
+fn tell<J: Naming, R: Wait, O: Write>(
+    rt: &R,
+    alloc: Global,
+    mut session: Session<J>,
+    raced: Vec<Raced<J>>,
+    out: &mut O,
+) -> Result<(), Fault> {
+    let mut closings = Vec::new(alloc);
+    for (number, mut one) in raced.into_iter().enumerate() {
+        let (accepted, refused) = (one.accepted, one.refused);
+        writeln!(out, "script {number} accepted {accepted} refused {refused}").map_err(
+            |_| Refused::CannotWrite,
+        )?;
+        session.meet(&mut one.session);
+        closings.push(one.closings).map_err(|_| Refused::NoMemory)?;
+    }
+    let fenced = make(rt, alloc, &mut session, Command::Fence);
+    write_answer(fenced, out).map_err(|_| Refused::CannotWrite)?;
+    for commands in closings {
+        for command in commands {
+            let answer = make(rt, alloc, &mut session, command);
+            write_answer(answer, out).map_err(|_| Refused::CannotWrite)?;
+        }
+    }
+    Ok(())
+}
