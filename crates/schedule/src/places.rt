@@ -151,7 +151,7 @@ impl<'p> Places<'p> {
         ensures range { result < base_count self.now }
     {
         self.plan.keeps_profile();
-        base_at(self.plan, table, key_shard(self.plan, table, entry))
+        base_at(self.plan, table, entry_shard(self.plan, table, entry))
     }
 
     /// Where a domain stands, if the plan has it. Takes no memory. Cost: a look at each table or at
@@ -206,8 +206,8 @@ fn wire_among(wires: &[Wire], place: usize) -> Option<Wire>
     wires.get(place).copied()
 }
 
-/// The shard of the table that has the entry's key.
-fn key_shard(plan: &Plan, table: usize, entry: &Entry) -> usize
+/// The shard of the table that has the entry's key. It takes no memory.
+pub fn entry_shard(plan: &Plan, table: usize, entry: &Entry) -> usize
     requires table { table < length plan.now.tables }
     requires key { HasKey (table_at plan.now table).key (change_of entry.now) }
     ensures shard { result ≡ shard (key_of (table_at plan.now table).key (change_of entry.now))

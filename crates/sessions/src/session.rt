@@ -26,8 +26,9 @@ use plan::plan::Plan;
 use routes::routes::Routes;
 use row::refused::Refused;
 use row::row::Row;
-use row::value::{Value, shard_of};
+use row::value::Value;
 use schedule::arguments::write_target;
+use schedule::places::entry_shard;
 use shown::reader::ShownReader;
 use std::alloc::Global;
 use std::marker::Model;
@@ -247,7 +248,7 @@ impl<J: Naming> Session<J> {
             return Err(Refused::Stolen);
         }
         let table = fitting_table(self.plan(), table, &entry)?;
-        let shard = shard_in(self.plan(), table, &entry);
+        let shard = entry_shard(self.plan(), table, &entry);
         let base = base_at(self.plan(), table, shard);
         match self.send(rt, alloc, base, entry) {
             Ok(index) => Ok(Accepted {
@@ -328,21 +329,4 @@ fn fitting_table(plan: &Plan, name: &str, entry: &Entry) -> Result<usize, Refuse
     plan.keeps_profile();
     let table = write_target(plan, name, entry)?;
     Ok(table)
-}
-
-// The shard of the table in which the entry stands.
-fn shard_in(plan: &Plan, table: usize, entry: &Entry) -> usize
-    requires table { table < length plan.now.tables }
-    requires key { HasKey (table_at plan.now table).key (change_of entry.now) }
-    ensures shard { result ≡ shard (key_of (table_at plan.now table).key (change_of entry.now))
-        (table_at plan.now table).shards }
-    ensures range { result < (table_at plan.now table).shards }
-{
-    plan.keeps_profile();
-    let table = plan.table(table);
-    let key = match entry {
-        Entry::Insert(row) | Entry::Update(row) => row.cell(table.key()),
-        Entry::Delete(key) => key,
-    };
-    shard_of(key, table.shards())
 }

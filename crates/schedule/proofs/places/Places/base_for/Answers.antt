@@ -9,8 +9,8 @@ use Rattle.model.proofs.PlaceLaws.{base_table}
 use Rattle.base.proofs.Fitting.{fits_key}
 use Rattle.schedule.proofs.places.Places.base_for.Goals as goal
 
-pub key_shard-requires-clause-key : goal.key_shard-requires-clause-key
-key_shard-requires-clause-key c =
+pub entry_shard-requires-clause-key : goal.entry_shard-requires-clause-key
+entry_shard-requires-clause-key c =
     let p = c.self.inside.plan.now in
     let t = c.args.table in
     let lt = subst (λ (q : Layout). t < length q.tables) (sym c.self.view_is) c.requires.table in
@@ -21,4 +21,4 @@ returns-clause-table c =
     let p = c.self.inside.plan.now in
     let t = c.args.table in
     let lt = subst (λ (q : Layout). t < length q.tables) (sym c.self.view_is) c.requires.table in
-    ap (λ (q : Layout). table_of q c.base_at.result) (sym c.self.view_is) ∙ ap (table_of p) c.base_at.ensures.number ∙ base_table p t c.key_shard.result lt c.key_shard.ensures.range
+    ap (λ (q : Layout). table_of q c.base_at.result) (sym c.self.view_is) ∙ ap (table_of p) c.base_at.ensures.number ∙ base_table p t c.entry_shard.result lt c.entry_shard.ensures.range
