@@ -9,7 +9,6 @@ pub mod gate;
 pub mod stage_turns;
 pub mod stage_worker;
 pub mod turns;
-pub mod view_inbox;
 pub mod view_turns;
 pub mod view_worker;
 pub mod waits;

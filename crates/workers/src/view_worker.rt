@@ -13,7 +13,7 @@ ghost use Rattle.workers.specs.ViewTurns.{Shows, Went};
 use crate::fresh::fresh_view;
 use crate::gate::Gate;
 use crate::turns::Turns;
-use crate::view_inbox::take_from_inbox;
+use crate::view_turns::take_from_inbox;
 use crate::waits::Waits;
 use book::front::Front;
 use book::law::Naming;

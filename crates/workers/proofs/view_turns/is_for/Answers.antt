@@ -4,7 +4,7 @@ use Rattle.packet.specs.Lines.{AreOf}
 use Rattle.view_domain.specs.Codes.{Meets}
 use Rattle.workers.specs.ViewTurns.{are_one}
 use Rattle.workers.proofs.Due.{view_meets}
-use Rattle.workers.proofs.view_inbox.is_for.Goals as goal
+use Rattle.workers.proofs.view_turns.is_for.Goals as goal
 
 pub returns-in-Packet-clause-meets : goal.returns-in-Packet-clause-meets
 returns-in-Packet-clause-meets g c = λ t.
