@@ -1,6 +1,6 @@
 //! Sessions: inserts, fences, reads and meetings.
 use crate::asks::{add, fail, fence, meet, next, wrong};
-use crate::runs::{Scene, run};
+use crate::runs::{Scene, run_notes};
 use crate::steps::{Call, Step, Told, make_all};
 use book::law::Naming;
 use row::refused::Refused;
@@ -13,22 +13,22 @@ use system::system::System;
 
 #[test]
 fn one_session(rt: HostRuntime) -> Result<(), Fail> {
-    run(rt, rt.alloc(), 1, Scene::OneSession)
+    run_notes(rt, rt.alloc(), 1, Scene::OneSession)
 }
 
 #[test]
 fn a_session_of_a_stopped_system(rt: HostRuntime) -> Result<(), Fail> {
-    run(rt, rt.alloc(), 1, Scene::Stopped)
+    run_notes(rt, rt.alloc(), 1, Scene::Stopped)
 }
 
 #[test]
 fn sessions_that_meet(rt: HostRuntime) -> Result<(), Fail> {
-    run(rt, rt.alloc(), 2, Scene::Meeting)
+    run_notes(rt, rt.alloc(), 2, Scene::Meeting)
 }
 
 #[test]
 fn four_sessions_at_once(rt: HostRuntime) -> Result<(), Fail> {
-    run(rt, rt.alloc(), 4, Scene::FourSessions)
+    run_notes(rt, rt.alloc(), 4, Scene::FourSessions)
 }
 
 const OF_ONE: &[Step] = &[

@@ -1,6 +1,6 @@
 //! Reads of several sessions beside the writes of another one.
 use crate::asks::{fail, fence, next, wrong};
-use crate::runs::{Scene, run};
+use crate::runs::{Scene, run_notes};
 use crate::steps::{Call, Told, answer};
 use book::law::Naming;
 use row::refused::Refused;
@@ -13,7 +13,7 @@ use system::system::System;
 
 #[test]
 fn reads_beside_a_writer(rt: HostRuntime) -> Result<(), Fail> {
-    run(rt, rt.alloc(), 4, Scene::ReadsBeside)
+    run_notes(rt, rt.alloc(), 4, Scene::ReadsBeside)
 }
 
 /// How many notes the writing session inserts, how many reads each reading session makes, and

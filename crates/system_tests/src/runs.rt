@@ -1,8 +1,8 @@
-//! What each test does with a running system of the built-in plan, which is begun in one place.
+//! What each test does with a running system, which is begun in one place.
 ghost use Rattle.std.specs.Prelude.{◌≡◌, ◌<◌};
-ghost use Rattle.plan.specs.Recipes.{notes_plan};
 
 use crate::asks::fail;
+use crate::gates::{Line, insert_lines};
 use crate::{callers, reads};
 use book::book::Opened;
 use book::law::Naming;
@@ -13,7 +13,7 @@ use std::sync::Wait;
 use std::test::Fail;
 use std::thread::Threads;
 use system::system::System;
-use workers::gate::OpenGate;
+use workers::gate::{Gate, OpenGate};
 
 /// What is done, and asked of what comes of it.
 #[derive(Clone, Copy)]
@@ -23,10 +23,11 @@ pub enum Scene {
     Meeting,
     ReadsBeside,
     Stopped,
+    Lines(&'static [Line]),
 }
 
-// Plays the scene with a book for so many sessions. What is answered wrong is a failure.
-pub fn run<R: Threads + Wait + Copy + Drop + Send + 'static>(
+// Plays the scene with the built-in plan.
+pub fn run_notes<R: Threads + Wait + Copy + Drop + Send + 'static>(
     rt: R,
     alloc: Global,
     sessions: usize,
@@ -34,25 +35,39 @@ pub fn run<R: Threads + Wait + Copy + Drop + Send + 'static>(
 ) -> Result<(), Fail>
     requires few { sessions < 17 }
 {
-    let plan = Plan::built_in(alloc)?;
-    let opened = Opened::new(alloc, &plan, sessions)?;
-    run_named::<Brand, _>(rt, alloc, opened, plan, sessions, scene)
+    run(rt, alloc, Plan::built_in(alloc)?, sessions, OpenGate, scene)
 }
 
-fn run_named<J: Naming + Send + Sync + 'static, R: Threads + Wait + Copy + Drop + Send + 'static>(
+// Plays the scene with a book for so many sessions. What is answered wrong is a failure.
+pub fn run<
+    R: Threads + Wait + Copy + Drop + Send + 'static,
+    G: Gate + Send + Sync + Drop + 'static,
+>(rt: R, alloc: Global, plan: Plan, sessions: usize, gate: G, scene: Scene) -> Result<(), Fail>
+    requires few { sessions < 17 }
+{
+    let opened = Opened::new(alloc, &plan, sessions)?;
+    run_named::<Brand, R, G>(rt, alloc, opened, plan, sessions, gate, scene)
+}
+
+fn run_named<
+    J: Naming + Send + Sync + 'static,
+    R: Threads + Wait + Copy + Drop + Send + 'static,
+    G: Gate + Send + Sync + Drop + 'static,
+>(
     rt: R,
     alloc: Global,
     opened: Opened,
     plan: Plan,
     sessions: usize,
+    gate: G,
     scene: Scene,
 ) -> Result<(), Fail>
     requires book { opened.book ≡ J.book }
-    requires plan { (opened.plan ≡ J.plan) × (plan ≡ J.plan) × (J.plan ≡ notes_plan) }
+    requires plan { (opened.plan ≡ J.plan) × (plan ≡ J.plan) }
     requires sessions { (opened.sessions ≡ J.sessions) × (sessions ≡ J.sessions) }
     requires few { sessions < 17 }
 {
-    match System::<J>::start(rt, alloc, opened, plan, sessions, OpenGate) {
+    match System::<J>::start(rt, alloc, opened, plan, sessions, gate) {
         Ok(system) => play(rt, alloc, system, scene),
         Err(refused) => Err(fail(refused)),
     }
@@ -70,7 +85,8 @@ fn play<J: Naming + Send + Sync + 'static, R: Threads + Wait + Copy + Drop + Sen
         Scene::FourSessions => callers::calls_of_four(rt, alloc, &mut system),
         Scene::Meeting => callers::calls_of_two(&rt, alloc, &mut system),
         Scene::ReadsBeside => reads::reads_beside(rt, alloc, &mut system),
-        _ => return callers::calls_of_stopped(&rt, alloc, system),
+        Scene::Lines(lines) => insert_lines(&rt, alloc, &mut system, lines).map_err(fail),
+        Scene::Stopped => return callers::calls_of_stopped(&rt, alloc, system),
     };
     system.stop(&rt);
     played
