@@ -1,6 +1,7 @@
 //! Writes of a session, and what becomes of them.
 ghost use Rattle.std.specs.Prelude.{◌≡◌, ◌⊎◌, ◌<◌, ◌≤◌, true, IfErr, IfOk, IfSome, IsSome, Some, None};
 ghost use mathlib.Core.List.{IsPrefix};
+ghost use Rattle.calls.specs.Writes.{IsAnswer, IsTo, Says};
 ghost use Rattle.row.specs.Cells.{shard};
 ghost use Rattle.model.specs.Entries.{change_of};
 ghost use Rattle.model.specs.Histories.{write};
@@ -10,7 +11,6 @@ ghost use Rattle.base_domain.specs.Received.{last_number};
 ghost use Rattle.book.specs.Fronts.{FrontView};
 ghost use Rattle.book.specs.Replies.{IsAfter, IsWhole};
 ghost use Rattle.routes.specs.Mails.{HasFront};
-ghost use Rattle.calls.specs.Writes.{IsAnswer, IsTo, Says};
 
 use book::front::Front;
 use book::law::Naming;

@@ -5,6 +5,7 @@ mod answers;
 mod command;
 mod fault;
 mod files;
+mod play;
 mod race;
 mod reads;
 mod runner;

@@ -1,27 +1,19 @@
 //! Races scripts: all of them at once, each in a session and a thread of its own.
-ghost use Rattle.std.specs.Prelude.{◌≡◌, ◌<◌};
-
 use crate::answers::{Answered, make, write_answer};
 use crate::fault::Fault;
 use crate::files::{calls_named, plan_named};
+use crate::play::{Play, start};
 use crate::texts::Texts;
-use book::book::Opened;
 use book::law::Naming;
-use plan::plan::Plan;
 use row::refused::Refused;
 use script::command::Command;
 use script::script::Call;
 use sessions::session::Session;
 use std::alloc::Global;
 use std::io::{BufWriter, Write};
-use std::marker::Brand;
 use std::sync::Wait;
 use std::thread::{self, JoinHandle, Threads};
 use system::system::System;
-use workers::gate::OpenGate;
-
-/// The most scripts: the sixteenth session makes the closing fence and reads.
-const SCRIPTS: usize = 15;
 
 /// Reads and checks the recipe and then the scripts of these names, starts the recipe's plan, and runs
 /// all scripts at once. It writes what each came to, then makes one fence in a session that has met
@@ -41,37 +33,7 @@ pub fn race_files<R: Threads + Wait + Copy + Drop + Send + 'static, T: Texts, O:
         let calls = calls_named(alloc, script.as_str(), texts)?;
         all.push(calls).map_err(|_| Refused::NoMemory)?;
     }
-    if all.len() > SCRIPTS {
-        return Err(Fault::Refused(Refused::NoSessionLeft));
-    }
-    let sessions = all.len() + 1;
-    let opened = Opened::new(alloc, &plan, sessions)?;
-    race_calls::<Brand, R, O>(rt, alloc, opened, plan, sessions, all, out)
-}
-
-// Starts the system, and races the scripts in its sessions.
-fn race_calls<
-    J: Naming + Send + Sync + 'static,
-    R: Threads + Wait + Copy + Drop + Send + 'static,
-    O: Write,
->(
-    rt: R,
-    alloc: Global,
-    opened: Opened,
-    plan: Plan,
-    sessions: usize,
-    scripts: Vec<Vec<Call>>,
-    out: &mut O,
-) -> Result<(), Fault>
-    requires book { opened.book ≡ J.book }
-    requires plan { (opened.plan ≡ J.plan) × (plan ≡ J.plan) }
-    requires sessions { (opened.sessions ≡ J.sessions) × (sessions ≡ J.sessions) }
-    requires few { sessions < 17 }
-{
-    let mut system = System::<J>::start(rt, alloc, opened, plan, sessions, OpenGate)?;
-    let answer = race(rt, alloc, &mut system, scripts, out);
-    system.stop(&rt);
-    answer
+    start(rt, alloc, plan, Play::Race(all), out)
 }
 
 // What a script came to: its session, how many writes were accepted and calls refused, and its closing
@@ -84,7 +46,8 @@ struct Raced<J: Naming> {
     closings: Vec<Command>,
 }
 
-fn race<
+// Runs all scripts at once, and tells what each came to.
+pub fn race<
     J: Naming + Send + Sync + 'static,
     R: Threads + Wait + Copy + Drop + Send + 'static,
     O: Write,

@@ -3,6 +3,7 @@ ghost use Rattle.std.specs.Prelude.{◌≡◌};
 ghost use Rattle.noria.specs.Keys.{kind_of_table};
 
 use book::law::Naming;
+use model::entry::Entry;
 use plan::kinds::Kind;
 use plan::plan::Plan;
 use row::refused::Refused;
@@ -28,29 +29,18 @@ pub fn write<J: Naming, R: Wait>(
     table: &str,
     words: Words,
 ) -> Result<Accepted, Refused> {
-    match words {
-        Words::Insert(cells) => {
-            let row = row_of_words(alloc, session.plan(), table, cells)?;
-            session.insert(rt, alloc, table, row)
-        }
-        Words::Update(cells) => {
-            let row = row_of_words(alloc, session.plan(), table, cells)?;
-            session.update(rt, alloc, table, row)
-        }
+    let entry = match words {
+        Words::Insert(cells) => Entry::Insert(row_of(alloc, session.plan(), table, cells)?),
+        Words::Update(cells) => Entry::Update(row_of(alloc, session.plan(), table, cells)?),
         Words::Delete(word) => {
-            let key = value_of(alloc, kind_of_table(session.plan(), table), word)?;
-            session.delete(rt, alloc, table, key)
+            Entry::Delete(value_of(alloc, kind_of_table(session.plan(), table), word)?)
         }
-    }
+    };
+    session.write(rt, alloc, table, entry)
 }
 
 // Each word is read by its column; where there is no such column it is a text.
-fn row_of_words(
-    alloc: Global,
-    plan: &Plan,
-    table: &str,
-    words: Vec<String>,
-) -> Result<Row, Refused> {
+fn row_of(alloc: Global, plan: &Plan, table: &str, words: Vec<String>) -> Result<Row, Refused> {
     let table = plan.table_named(table).map(|place| plan.table(place));
     let mut cells = Vec::new(alloc);
     for word in words {

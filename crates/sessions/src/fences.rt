@@ -2,12 +2,12 @@
 ghost use Rattle.std.specs.Prelude.{◌≡◌, ◌⊎◌, ◌<◌, IfOk, OnOk, IfErr, Some, map};
 ghost use Rattle.row.specs.Bags.{Each};
 ghost use Rattle.book.specs.Fronts.{FrontView};
+ghost use Rattle.sessions.specs.Sights.{IsCovering, IsCut};
 ghost use Rattle.model.specs.Legal.{IsLegal};
 ghost use Rattle.model.specs.Places.{sources};
 ghost use Rattle.model.specs.Tables.{places_of};
 ghost use Rattle.base_domain.specs.Received.{last_number};
 ghost use Rattle.sessions.specs.Reads.{HasLooked};
-ghost use Rattle.sessions.specs.Sights.{IsCovering, IsCut};
 
 use crate::session::Session;
 use book::cut::Cuts;

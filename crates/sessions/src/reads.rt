@@ -3,11 +3,11 @@ ghost use Rattle.std.specs.Prelude.{◌≡◌, ◌⊎◌, ◌<◌, IfOk, OnOk, I
 ghost use Rattle.std.specs.Prelude.{slice_get};
 ghost use Rattle.row.specs.Cells.{datum_of};
 ghost use Rattle.plan.specs.Layouts.{view_at};
+ghost use Rattle.shown.specs.Looks.{OnHit as OnShown, OnMiss as OnHidden};
 ghost use Rattle.model.specs.Histories.{view_shard};
 ghost use Rattle.model.specs.Legal.{IsLegal};
 ghost use Rattle.base_domain.specs.Received.{last_number};
 ghost use Rattle.packet.specs.Readers.{readers};
-ghost use Rattle.shown.specs.Looks.{OnHit as OnShown, OnMiss as OnHidden};
 ghost use Rattle.sessions.specs.Reads.{IsHidden};
 
 use crate::session::Session;

@@ -204,8 +204,8 @@ impl<J: Naming> Session<J> {
         self.write(rt, alloc, table, Entry::Delete(key))
     }
 
-    // Writes an entry to the table of this name.
-    fn write<R: Wait>(
+    /// Writes an entry to the table of this name, as `insert`, `update` or `delete` does.
+    pub fn write<R: Wait>(
         &mut self,
         rt: &R,
         alloc: Global,

@@ -3,6 +3,7 @@ ghost use Rattle.std.specs.Prelude.{◌≡◌, ◌⊎◌, ◌<◌, ◌≤◌, �
 ghost use Rattle.std.specs.Prelude.{IfOk, IfErr, IsTrue, Some};
 ghost use Rattle.row.specs.Bags.{Each};
 ghost use Rattle.row.specs.Cells.{datum_of};
+ghost use Rattle.sessions.specs.Sights.{Finds, HasAll, IsCut, IsCutAt};
 ghost use Rattle.model.specs.Histories.{len_at, view_shard};
 ghost use Rattle.book.specs.Fronts.{FrontView};
 ghost use Rattle.packet.specs.Readers.{readers as readers_of};
@@ -10,7 +11,6 @@ ghost use Rattle.shown.specs.Looks.{OnHit, OnMiss};
 ghost use Rattle.schedule.specs.Codes.{reader_in};
 ghost use Rattle.sessions.specs.Callers.{AreLater, reader_of};
 ghost use Rattle.sessions.specs.Reads.{IsHidden};
-ghost use Rattle.sessions.specs.Sights.{Finds, HasAll, IsCut, IsCutAt};
 
 use book::cut::{Cut, Cuts};
 use book::front::Front;

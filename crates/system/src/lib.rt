@@ -2,4 +2,5 @@
 #![tactic(auto)]
 
 mod domains;
+mod starter;
 pub mod system;

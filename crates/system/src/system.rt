@@ -4,6 +4,7 @@ ghost use Rattle.model.specs.Histories.{floor_at};
 ghost use Rattle.sessions.specs.Callers.{reader_of};
 
 use crate::domains::Domains;
+use crate::starter::Starter;
 use book::book::{Opened, Rights};
 use book::law::Naming;
 use book::session::SessionWord;
@@ -74,10 +75,11 @@ impl<J: Naming + Send + Sync + 'static> System<J> {
             words,
             copies,
         } = opened.named::<J>(alloc, &plan)?;
-        let gate = Arc::new(alloc, gate)?;
         let routes = Arc::new(alloc, Routes::new(alloc, plan, book, sessions)?)?;
-        let mut domains = Domains::new(alloc, routes);
-        match domains.start(rt, alloc, &gate, &start, sessions, copies, logs) {
+        let mut starter = Starter::new(rt, alloc, gate, routes)?;
+        let started = starter.start(&start, sessions, copies, logs);
+        let domains = starter.into_domains();
+        match started {
             Ok(readers) => Ok(System {
                 domains,
                 words,

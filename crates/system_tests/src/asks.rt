@@ -38,11 +38,7 @@ pub fn write<J: Naming, R: Wait>(
     table: &str,
     entry: Entry,
 ) -> Result<Accepted, Refused> {
-    match entry {
-        Entry::Insert(row) => session.insert(rt, alloc, table, row),
-        Entry::Update(row) => session.update(rt, alloc, table, row),
-        Entry::Delete(key) => session.delete(rt, alloc, table, key),
-    }
+    session.write(rt, alloc, table, entry)
 }
 
 pub fn fence<J: Naming, R: Wait>(

@@ -70,6 +70,10 @@ const DOMAINS: usize = 8;
 /// A table, and the row that is inserted there, by its id and its second cell.
 pub type Line = (&'static str, i128, i128);
 
+const NOTE: &[Line] = &[("notes", 1, 7)];
+
+const STORY: &[Line] = &[("stories", 1, 7)];
+
 /// Rows of which each base shard, stage shard and view shard has a turn.
 const LINES: &[Line] = &[
     ("stories", 2, 7),
@@ -114,45 +118,53 @@ impl Arrivals {
     }
 }
 
-/// Holds stage shard 0 before its first turn until stage shard 1, which waits for that, is past its
-/// own.
+/// Which domains meet.
+#[derive(Clone, Copy)]
+enum Meeting {
+    /// Stage shard 0 waits before its first turn until stage shard 1, which waits for that, is past
+    /// its own.
+    TwoStages,
+    /// Each domain waits after its first turn until all have made theirs.
+    All,
+}
+
+impl Meeting {
+    // How many threads come.
+    fn count(self) -> usize {
+        match self {
+            Meeting::TwoStages => 2,
+            Meeting::All => DOMAINS,
+        }
+    }
+}
+
+/// Holds domains until they have met.
 #[derive(Drop)]
-struct TwoAtOnce {
+struct Meets {
+    meeting: Meeting,
     arrivals: Arc<Arrivals>,
 }
 
-impl Gate for TwoAtOnce {
+impl Gate for Meets {
     fn before(&self, domain: DomainId, turn: u64) {
-        match (domain, turn) {
-            (DomainId::Stage(0), 0) => {
+        match (self.meeting, domain, turn) {
+            (Meeting::TwoStages, DomainId::Stage(0), 0) => {
                 self.arrivals.arrive();
                 self.arrivals.wait_for(2, 100_000);
             }
-            (DomainId::Stage(1), 0) => self.arrivals.wait_for(1, 100_000),
+            (Meeting::TwoStages, DomainId::Stage(1), 0) => self.arrivals.wait_for(1, 100_000),
             _ => {}
         }
     }
 
     fn after(&self, domain: DomainId, turn: u64) {
-        if matches!((domain, turn), (DomainId::Stage(1), 0)) {
-            self.arrivals.arrive();
-        }
-    }
-}
-
-/// Holds each domain after its first turn until all have made theirs.
-#[derive(Drop)]
-struct AllAtOnce {
-    arrivals: Arc<Arrivals>,
-}
-
-impl Gate for AllAtOnce {
-    fn before(&self, _domain: DomainId, _turn: u64) {}
-
-    fn after(&self, _domain: DomainId, turn: u64) {
-        if turn == 0 {
-            self.arrivals.arrive();
-            self.arrivals.wait_for(DOMAINS, 1_000_000);
+        match (self.meeting, domain, turn) {
+            (Meeting::TwoStages, DomainId::Stage(1), 0) => self.arrivals.arrive(),
+            (Meeting::All, _, 0) => {
+                self.arrivals.arrive();
+                self.arrivals.wait_for(DOMAINS, 1_000_000);
+            }
+            _ => {}
         }
     }
 }
@@ -160,41 +172,39 @@ impl Gate for AllAtOnce {
 #[test]
 fn two_domains_at_once(rt: HostRuntime) -> Result<(), Fail> {
     let alloc = rt.alloc();
-    for (recipe, lines) in [(NOTES, &[("notes", 1, 7)]), (VOTES, &[("stories", 1, 7)])] {
-        let arrivals = Arc::new(alloc, Arrivals::new())?;
-        let gate = TwoAtOnce {
-            arrivals: Arc::try_clone(&arrivals)?,
-        };
-        run(
-            rt,
-            alloc,
-            from_toml(alloc, recipe)?,
-            1,
-            gate,
-            Scene::Lines(lines),
-        )?;
-        assert!(rt; arrivals.are(2));
-    }
+    assert!(rt; do_meet(rt, alloc, NOTES, NOTE, Meeting::TwoStages)?);
+    assert!(rt; do_meet(rt, alloc, VOTES, STORY, Meeting::TwoStages)?);
     Ok(())
 }
 
 #[test]
 fn all_domains_at_once(rt: HostRuntime) -> Result<(), Fail> {
-    let alloc = rt.alloc();
+    assert!(rt; do_meet(rt, rt.alloc(), VOTES, LINES, Meeting::All)?);
+    Ok(())
+}
+
+// Whether the domains of a recipe meet while a session inserts the rows.
+fn do_meet<R: Threads + Wait + Copy + Drop + Send + 'static>(
+    rt: R,
+    alloc: Global,
+    recipe: &str,
+    lines: &'static [Line],
+    meeting: Meeting,
+) -> Result<bool, Fail> {
     let arrivals = Arc::new(alloc, Arrivals::new())?;
-    let gate = AllAtOnce {
+    let gate = Meets {
+        meeting,
         arrivals: Arc::try_clone(&arrivals)?,
     };
     run(
         rt,
         alloc,
-        from_toml(alloc, VOTES)?,
+        from_toml(alloc, recipe)?,
         1,
         gate,
-        Scene::Lines(LINES),
+        Scene::Lines(lines),
     )?;
-    assert!(rt; arrivals.are(DOMAINS));
-    Ok(())
+    Ok(arrivals.are(meeting.count()))
 }
 
 // Inserts the rows in a session, and fences.

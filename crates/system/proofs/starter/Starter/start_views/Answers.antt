@@ -3,7 +3,7 @@ use Rattle.std.proofs.lemmas.List.{map-append, take_more}
 use Rattle.packet.specs.Readers.{Reader, readers}
 use Rattle.sessions.specs.Callers.{reader_of}
 use Rattle.system.proofs.Started.{next_is, rest_left}
-use Rattle.system.proofs.domains.Domains.start_views.Goals as goal
+use Rattle.system.proofs.starter.Starter.start_views.Goals as goal
 
 pub loop-reader-preserved : goal.loop-reader-preserved
 loop-reader-preserved g c =

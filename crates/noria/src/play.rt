@@ -1,0 +1,85 @@
+//! Starts the store of a plan, and plays scripts in its sessions.
+ghost use Rattle.std.specs.Prelude.{◌≡◌, ◌<◌, IfOk};
+
+use crate::fault::Fault;
+use crate::race::race;
+use crate::runner::run_calls;
+use book::book::Opened;
+use book::law::Naming;
+use plan::plan::Plan;
+use row::refused::Refused;
+use script::script::Call;
+use std::alloc::Global;
+use std::io::Write;
+use std::marker::Brand;
+use std::sync::Wait;
+use std::thread::Threads;
+use system::system::System;
+use workers::gate::OpenGate;
+
+/// The most scripts of a race: the sixteenth session makes the closing fence and reads.
+const SCRIPTS: usize = 15;
+
+/// What the sessions of a store do.
+#[derive(Drop)]
+pub enum Play {
+    /// One session makes these calls in turn.
+    Run(Vec<Call>),
+    /// Each script runs in a session and a thread of its own; then one session more makes the closing
+    /// fence and reads.
+    Race(Vec<Vec<Call>>),
+}
+
+/// Starts the plan, plays, and writes the answers. `NoSessionLeft` where more than fifteen scripts
+/// race, and nothing is started. All threads that it starts have ended.
+pub fn start<R: Threads + Wait + Copy + Drop + Send + 'static, O: Write>(
+    rt: R,
+    alloc: Global,
+    plan: Plan,
+    play: Play,
+    out: &mut O,
+) -> Result<(), Fault> {
+    let sessions = sessions_of(&play)?;
+    let opened = Opened::new(alloc, &plan, sessions)?;
+    start_named::<Brand, R, O>(rt, alloc, opened, plan, sessions, play, out)
+}
+
+// How many sessions it takes.
+fn sessions_of(play: &Play) -> Result<usize, Fault>
+    ensures { IfOk result (λ n. n < 17) }
+{
+    match play {
+        Play::Run(_) => Ok(1),
+        Play::Race(scripts) if scripts.len() > SCRIPTS => {
+            Err(Fault::Refused(Refused::NoSessionLeft))
+        }
+        Play::Race(scripts) => Ok(scripts.len() + 1),
+    }
+}
+
+fn start_named<
+    J: Naming + Send + Sync + 'static,
+    R: Threads + Wait + Copy + Drop + Send + 'static,
+    O: Write,
+>(
+    rt: R,
+    alloc: Global,
+    opened: Opened,
+    plan: Plan,
+    sessions: usize,
+    play: Play,
+    out: &mut O,
+) -> Result<(), Fault>
+    requires book { opened.book ≡ J.book }
+    requires plan { (opened.plan ≡ J.plan) × (plan ≡ J.plan) }
+    requires sessions { (opened.sessions ≡ J.sessions) × (sessions ≡ J.sessions) }
+    requires few { sessions < 17 }
+{
+    let mut system = System::<J>::start(rt, alloc, opened, plan, sessions, OpenGate)?;
+    let played = match play {
+        Play::Run(calls) => run_calls(&rt, alloc, &mut system, calls, out),
+        Play::Race(scripts) => race(rt, alloc, &mut system, scripts, out),
+    };
+    system.stop(&rt);
+    played
+}
