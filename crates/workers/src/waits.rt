@@ -1,5 +1,5 @@
 //! Sessions that wait for keys of a view shard.
-ghost use Rattle.std.specs.Prelude.{◌≡◌, ◌<◌, length, replicate, slice_index_or, slice_set, IfNone, IfOk, IfSome};
+ghost use Rattle.std.specs.Prelude.{◌≡◌, ◌<◌, length, map, replicate, slice_index_or, slice_set, IfNone, IfOk, IfSome};
 ghost use Rattle.workers.specs.Waits.{waiting_on};
 
 use book::front::Front;
@@ -60,14 +60,15 @@ impl Waits {
     }
 
     /// Rings the bell of each session whose key is filled, with the number of its wait, and it waits no
-    /// longer. It takes no memory. Cost: a look-up for each session that waits.
+    /// longer; every other session waits on. It takes no memory. Cost: a look-up for each session that
+    /// waits.
     pub fn ring<J: Naming, R: Wait>(
         &mut self,
         rt: &R,
         routes: &Routes<J>,
         domain: &ViewDomain<Front<J>>,
     )
-        ensures { length self.new ≡ length self.old }
+        ensures { self.new ≡ map (waiting_on domain.now.kept) self.old }
     {
         for session in 0..self.sessions() {
             if let Some(number) = self.filled(session, domain) {
