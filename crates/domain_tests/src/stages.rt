@@ -128,7 +128,18 @@ fn tells<'p, F: Fronts>(
 fn stops<'p, F: Fronts>(alloc: Global, notes: &Notes<'p, F>) -> Result<bool, Refused> {
     let mut domain = first_stage(alloc, notes)?;
     domain.stop();
-    match put_out(alloc, &mut domain, request()) {
+    has_stopped(alloc, &mut domain)
+}
+
+// Whether it has stopped, and refuses a request.
+fn has_stopped<'p, F: Fronts>(
+    alloc: Global,
+    domain: &mut StageDomain<'p, F>,
+) -> Result<bool, Refused>
+    requires plan { domain.old.plan ≡ notes_plan }
+{
+    let ask = ToStage::Request(Request::new(Tag(1), AUTHOR));
+    match put_out(alloc, domain, ask) {
         Err(Refused::Stopped) => Ok(domain.mode() == Mode::Stopped),
         Err(refused) => Err(refused),
         Ok(_) => Ok(false),
@@ -139,10 +150,11 @@ fn stops<'p, F: Fronts>(alloc: Global, notes: &Notes<'p, F>) -> Result<bool, Ref
 fn finds_a_gap<'p, F: Fronts>(alloc: Global, notes: &Notes<'p, F>) -> Result<bool, Refused> {
     let message = message(alloc, notes, Told::LaterMarker)?;
     let mut domain = first_stage(alloc, notes)?;
-    match put_out(alloc, &mut domain, message) {
-        Err(Refused::Gap) => Ok(domain.mode() == Mode::Stopped),
+    let mut out = Edges::new(alloc, 1)?;
+    match domain.receive(alloc, message, &mut out) {
+        Err(Refused::Gap) => has_stopped(alloc, &mut domain),
         Err(refused) => Err(refused),
-        Ok(_) => Ok(false),
+        Ok(()) => Ok(false),
     }
 }
 
