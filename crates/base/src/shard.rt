@@ -138,8 +138,8 @@ impl BaseShard {
         self.rows.get(key_in(entry, self.key_column))
     }
 
-    /// The row of a lawful entry's key, where one is held. One look-up, but for an Insert, whose key
-    /// has no row.
+    /// The row of a lawful entry's key, where one is held. One look-up, but for an Insert, whose
+    /// key has no row.
     fn find_lawful(&self, entry: &Entry) -> Option<&Row>
         requires key { HasKey self.now.key (change_of entry.now) }
         requires lawful { refusal_of self.now (change_of entry.now) ≡ None }
@@ -156,8 +156,8 @@ impl BaseShard {
 
     /// What an entry that `check` allows changes in the rows: plus the row of an Insert, minus the
     /// row of a Delete's key, and for an Update minus the old row of its key, then plus the new
-    /// one. Errors: memory only. One look-up of a key, but for an Insert, and a copy of each of these
-    /// rows, at most two.
+    /// one. Errors: memory only. One look-up of a key, but for an Insert, and a copy of each of
+    /// these rows, at most two.
     pub fn changes(&self, alloc: Global, entry: &Entry) -> Result<Vec<Record>, AllocError>
         requires key { HasKey self.now.key (change_of entry.now) }
         requires lawful { refusal_of self.now (change_of entry.now) ≡ None }
@@ -255,9 +255,9 @@ impl BaseShard {
         })
     }
 
-    /// The rows of the part that have the value in the column, in order, a repeat each time: what the
-    /// front of the log has of them. Errors: memory only. Cost: a look at each row of the shard, a
-    /// copy of each that is found, and a sort of those.
+    /// The rows of the part that have the value in the column, in order, a repeat each time: what
+    /// the front of the log has of them. Errors: memory only. Cost: a look at each row of the
+    /// shard, a copy of each that is found, and a sort of those.
     pub fn lookup(
         &self,
         alloc: Global,

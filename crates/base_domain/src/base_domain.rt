@@ -48,7 +48,11 @@ impl<'p, F: Fronts> Model for BaseDomain<'p, F> {
 
     ghost Value = { Domain F };
 
-    ghost view = { λ d. record { front = F.front d.right; next = d.next.items; stopped = d.stopped } };
+    ghost view = { λ d. record {
+      front = F.front d.right;
+      next = d.next.items;
+      stopped = d.stopped;
+    } };
 
     ghost invariant = { λ d. HoldsTruth d.plan.now d.table (F.log (F.front d.right))
         (F.authors (F.front d.right)) d.shard d.next.items };

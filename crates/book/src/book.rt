@@ -29,8 +29,8 @@ impl Opening<Plan, LogPage> for First {
     ghost log = { λ count plan. opens plan (count - base_count plan) ∷ [] };
 }
 
-/// A word was found to have moved: it has more items than the caller had counted. (No clause says yet
-/// that none of them is the caller's own.)
+/// A word was found to have moved: it has more items than the caller had counted. (No clause says
+/// yet that none of them is the caller's own.)
 #[derive(Drop)]
 pub struct Moved;
 
@@ -51,11 +51,16 @@ impl Model for Opened {
 
     ghost Value = { OpenedView };
 
-    ghost view = { λ o. record { book = o.seen.book; plan = plan_on o.seen.log; sessions = o.sessions } };
+    ghost view = { λ o. record {
+      book = o.seen.book;
+      plan = plan_on o.seen.log;
+      sessions = o.sessions;
+    } };
 
     ghost invariant = { λ o. (map padded_value o.words.items
         ≡ words_of o.seen.book (o.bases + o.sessions)) × (o.bases ≡ base_count (plan_on o.seen.log))
-        × (o.bases + o.sessions < 100) × (o.seen.log ≡ opens (plan_on o.seen.log) o.sessions ∷ []) };
+        × (o.bases + o.sessions < 100)
+        × (o.seen.log ≡ opens (plan_on o.seen.log) o.sessions ∷ []) };
 }
 
 /// The words that all threads share: one for each base shard, then one for each session. Each has
@@ -118,9 +123,9 @@ impl Opened {
         })
     }
 
-    /// The book under a name, with the log of each base shard, the word of each session and the right
-    /// to open each shown copy. There are no others: this is the one place that makes them. Errors:
-    /// memory only.
+    /// The book under a name, with the log of each base shard, the word of each session and the
+    /// right to open each shown copy. There are no others: this is the one place that makes them.
+    /// Errors: memory only.
     pub fn named<J: Naming>(self, alloc: Global, plan: &Plan) -> Result<Rights<J>, AllocError>
         requires book { self.book ≡ J.book }
         requires plan { (self.plan ≡ J.plan) × (plan.now ≡ J.plan) }

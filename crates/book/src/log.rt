@@ -87,8 +87,8 @@ impl<J: Naming> Log<J> {
         self.front.look(book)
     }
 
-    /// Adds an entry at the end of the log. Errors: where the log has moved; then a front comes that
-    /// has seen so, and this log is as it was. Cost: one exchange of the base shard's word.
+    /// Adds an entry at the end of the log. Errors: where the log has moved; then a front comes
+    /// that has seen so, and this log is as it was. Cost: one exchange of the base shard's word.
     pub fn append(
         &mut self,
         book: &Book<J>,

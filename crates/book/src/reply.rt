@@ -20,9 +20,9 @@ impl<J: Naming> Front<J> {
         self.len = look_at(book, self.base, &mut self.seen);
     }
 
-    /// Takes the front that a reply shows, to a write that was sent after this front had all that was
-    /// seen: the entry at the reply's place then stands after all of that. It is not the reply where
-    /// its place was seen before; then this front stays.
+    /// Takes the front that a reply shows, to a write that was sent after this front had all that
+    /// was seen: the entry at the reply's place then stands after all of that. It is not the reply
+    /// where its place was seen before; then this front stays.
     pub fn settle(&mut self, other: &Front<J>, index: u64) -> bool
         requires whole { IsWhole self.old }
         requires base { self.old.base ≡ other.now.base }

@@ -9,9 +9,9 @@ use row::refused::Refused;
 use std::sync::Wait;
 
 /// Sends the marker through every source, and waits until each view shard has said that it has come
-/// there through every stage shard. Refused with `Stopped` where a domain that it needs or the store
-/// has stopped, or `NoMemory`; it may have come through some of them then. Cost: a message for each
-/// source, and an acknowledgement of each view shard.
+/// there through every stage shard. Refused with `Stopped` where a domain that it needs or the
+/// store has stopped, or `NoMemory`; it may have come through some of them then. Cost: a message
+/// for each source, and an acknowledgement of each view shard.
 pub fn pass<J: Naming, R: Wait>(rt: &R, routes: &Routes<J>, marker: Marker) -> Result<(), Refused>
     ensures only { IfErr result (λ e. (e ≡ Refused.NoMemory) ⊎ (e ≡ Refused.Stopped)) }
 {
@@ -24,7 +24,8 @@ pub fn pass<J: Naming, R: Wait>(rt: &R, routes: &Routes<J>, marker: Marker) -> R
     Ok(())
 }
 
-// Waits until the view shard has the marker. An acknowledgement of an earlier fence counts for none.
+// Waits until the view shard has the marker. An acknowledgement of an earlier fence counts for
+// none.
 fn acknowledged<J: Naming, R: Wait>(
     rt: &R,
     routes: &Routes<J>,

@@ -11,9 +11,9 @@ use std::alloc::Global;
 use std::sync::Wait;
 
 /// Asks a view shard for a key, and waits until the shard has filled it. The number is that of the
-/// session's wait, and greater than that of each before. Refused with `Stopped` where the view shard,
-/// a stage shard, a source or the store has stopped, or `NoMemory`. Cost: two copies of the key, a
-/// message, and what the shard asks of others.
+/// session's wait, and greater than that of each before. Refused with `Stopped` where the view
+/// shard, a stage shard, a source or the store has stopped, or `NoMemory`. Cost: two copies of the
+/// key, a message, and what the shard asks of others.
 pub fn fill<J: Naming, R: Wait>(
     rt: &R,
     alloc: Global,

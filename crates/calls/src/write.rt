@@ -40,9 +40,9 @@ pub struct Told<J: Naming> {
 
 impl Call {
     /// Sends the entry to its base shard, and waits for the reply to this very call. Accepted, the
-    /// entry stands at the index that is told, after all that was seen. Refused by the log, what was
-    /// then seen has the log that refused, with no entry of the call; refused with `NoMemory` or
-    /// `Stopped`, no more was seen. Errors: `NoMemory`, or `Stopped` where the base shard or the
+    /// entry stands at the index that is told, after all that was seen. Refused by the log, what
+    /// was then seen has the log that refused, with no entry of the call; refused with `NoMemory`
+    /// or `Stopped`, no more was seen. Errors: `NoMemory`, or `Stopped` where the base shard or the
     /// store has stopped; nothing was sent then. Cost: a copy of the entry, one message and one
     /// reply.
     pub fn make<J: Naming, R: Wait>(

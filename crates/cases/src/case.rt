@@ -1,5 +1,5 @@
-//! The cases of a text. Each stands behind a line `== NAME`: a recipe, and then questions, each behind
-//! `? ` at the beginning of a line.
+//! The cases of a text. Each stands behind a line `== NAME`: a recipe, and then questions, each
+//! behind `? ` at the beginning of a line.
 use plan::plan::Plan;
 use recipe::error::PlanError;
 use recipe::recipe::from_toml;
@@ -19,8 +19,8 @@ pub trait Answers {
     fn write<'t, W: Write>(alloc: Global, case: &Case<'t>, out: &mut W) -> io::Result<()>;
 }
 
-/// Prints for each case of the text its name, and then its answers, or why its recipe is refused. What
-/// stands before the first case is for readers.
+/// Prints for each case of the text its name, and then its answers, or why its recipe is refused.
+/// What stands before the first case is for readers.
 pub fn write_cases<A: Answers, W: Write>(alloc: Global, text: &str, out: &mut W) -> io::Result<()> {
     for case in text.split("\n== ").skip(1) {
         if let Some((name, body)) = case.split_once('\n') {

@@ -19,8 +19,8 @@ use stage_domain::message::ToStage;
 use stage_domain::stage_domain::StageDomain;
 use std::alloc::{AllocError, Global};
 
-/// What comes to the stage shard without a note: the first note, a marker, a marker behind the note,
-/// or a request of the notes of the author.
+/// What comes to the stage shard without a note: the first note, a marker, a marker behind the
+/// note, or a request of the notes of the author.
 #[derive(Clone, Copy)]
 enum Told {
     Note,

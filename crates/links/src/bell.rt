@@ -57,8 +57,10 @@ impl Heard {
 
     // Tells of a ring first; an alarm is told once.
     fn answer(&mut self, call: u64) -> Woken
-        ensures rung { rang_for self.old.latest call ≡ true → (result ≡ Woken.Rung) × (self.new ≡ self.old) }
-        ensures alarmed { rang_for self.old.latest call ≡ false → (result ≡ Woken.Alarmed) × (self.new ≡ record self.old { alarmed = false }) }
+        ensures rung { rang_for self.old.latest call ≡ true → (result ≡ Woken.Rung)
+            × (self.new ≡ self.old) }
+        ensures alarmed { rang_for self.old.latest call ≡ false → (result ≡ Woken.Alarmed)
+            × (self.new ≡ record self.old { alarmed = false }) }
     {
         if self.has(call) {
             return Woken::Rung;
@@ -70,8 +72,8 @@ impl Heard {
 
 /// The bell of one session. Who has what the session waits for rings it with the number of the
 /// session's call, so that a ring that comes late wakes no later call: an event count, whose counts
-/// are the session's calls. Each call on it costs one lock, and takes no memory. That a ring comes no
-/// contract says.
+/// are the session's calls. Each call on it costs one lock, and takes no memory. That a ring comes
+/// no contract says.
 #[derive(Drop)]
 pub struct Bell {
     heard: Mutex<Heard>,
@@ -109,8 +111,8 @@ impl Bell {
     }
 
     /// Waits until the bell rings for this call, or there is an alarm that was not told. A ring of
-    /// an earlier call counts for none. It looks a few times before it sleeps. A session numbers its
-    /// calls upwards.
+    /// an earlier call counts for none. It looks a few times before it sleeps. A session numbers
+    /// its calls upwards.
     pub fn wait<R: Wait>(&self, rt: &R, call: u64) -> Woken {
         look(&self.ready);
         let mut heard = self

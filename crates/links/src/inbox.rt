@@ -45,12 +45,12 @@ pub enum Taking {
 }
 
 /// The inbox of a thread: a queue for each edge that leads to it, all behind one lock. Any thread
-/// puts; one takes. A contract sees how many edges there are. What the queues hold no contract says,
-/// since others change it; what a put and a take make of them, `Queues` and the type of the messages
-/// say.
+/// puts; one takes. A contract sees how many edges there are. What the queues hold no contract
+/// says, since others change it; what a put and a take make of them, `Queues` and the type of the
+/// messages say.
 ///
-/// The taker swaps its emptied queues for the filled ones, as one does with two buffers: the lock is
-/// held for a few words, however many messages there are.
+/// The taker swaps its emptied queues for the filled ones, as one does with two buffers: the lock
+/// is held for a few words, however many messages there are.
 #[derive(Drop)]
 pub struct Inbox<T: Drop> {
     line: Mutex<Line<T>>,
@@ -90,13 +90,15 @@ impl<T: Drop> Inbox<T> {
     }
 
     /// Puts a message last on an edge, and wakes the taker if it is the first that waits. Refused
-    /// with `UnknownPlace` exactly where there is no such edge, else with `Stopped` once the inbox is
-    /// closed and with `NoMemory` for want of room. A refused put leaves the inbox as it was, and
-    /// hands the message back. Cost: one lock, and constant time, spread over many.
+    /// with `UnknownPlace` exactly where there is no such edge, else with `Stopped` once the inbox
+    /// is closed and with `NoMemory` for want of room. A refused put leaves the inbox as it was,
+    /// and hands the message back. Cost: one lock, and constant time, spread over many.
     pub fn put<R: Wait>(&self, rt: &R, edge: usize, message: T) -> Result<(), Unsent<T>>
         ensures back { IfErr result (λ u. u.message ≡ message) }
-        ensures unknown { self.now ≤ edge → IsErrAnd result (λ u. u.refused ≡ Refused.UnknownPlace) }
-        ensures known { edge < self.now → IfErr result (λ u. (u.refused ≡ Refused.NoMemory) ⊎ (u.refused ≡ Refused.Stopped)) }
+        ensures unknown { self.now ≤ edge
+            → IsErrAnd result (λ u. u.refused ≡ Refused.UnknownPlace) }
+        ensures known { edge < self.now
+            → IfErr result (λ u. (u.refused ≡ Refused.NoMemory) ⊎ (u.refused ≡ Refused.Stopped)) }
     {
         if edge >= self.edges {
             return Err(Unsent::new(Refused::UnknownPlace, message));
@@ -115,7 +117,8 @@ impl<T: Drop> Inbox<T> {
     // The lock is free again before the taker wakes.
     fn push<R: Wait>(&self, rt: &R, edge: usize, message: T) -> Result<bool, Unsent<T>>
         ensures back { IfErr result (λ u. u.message ≡ message) }
-        ensures only { IfErr result (λ u. (u.refused ≡ Refused.NoMemory) ⊎ (u.refused ≡ Refused.Stopped)) }
+        ensures only { IfErr result (λ u. (u.refused ≡ Refused.NoMemory)
+            ⊎ (u.refused ≡ Refused.Stopped)) }
     {
         let mut line = self.line.lock(rt);
         let put = line.put(edge, message);
@@ -126,15 +129,16 @@ impl<T: Drop> Inbox<T> {
     }
 
     /// Waits until a message waits or the inbox is closed, and swaps the queues of the caller for
-    /// those that are filled. It looks a few times before it sleeps. Queues that still hold a message
-    /// stay as they are, and it does not wait: what was taken first comes first. `Closed` comes only
-    /// once the inbox is closed and all of it was taken; the queues then stay, and are empty. Takes no
-    /// memory and copies no message. Cost: one lock, and linear in the edges.
+    /// those that are filled. It looks a few times before it sleeps. Queues that still hold a
+    /// message stay as they are, and it does not wait: what was taken first comes first. `Closed`
+    /// comes only once the inbox is closed and all of it was taken; the queues then stay, and are
+    /// empty. Takes no memory and copies no message. Cost: one lock, and linear in the edges.
     pub fn take_all<R: Wait>(&self, rt: &R, taken: &mut Queues<T>) -> Taking
         requires count { length taken.old ≡ self.now }
         ensures count { length taken.new ≡ length taken.old }
         ensures taken { result ≡ Taking.Taken → holds_any taken.new ≡ true }
-        ensures kept { holds_any taken.old ≡ true → (result ≡ Taking.Taken) × (taken.new ≡ taken.old) }
+        ensures kept { holds_any taken.old ≡ true → (result ≡ Taking.Taken)
+            × (taken.new ≡ taken.old) }
         ensures closed { result ≡ Taking.Closed → taken.new ≡ taken.old }
     {
         if !taken.is_empty() {
@@ -149,8 +153,8 @@ impl<T: Drop> Inbox<T> {
         taking
     }
 
-    /// Closes the inbox: what is in it can be taken, each later put is refused, and the taker wakes.
-    /// It cannot be opened again. Cost: one lock.
+    /// Closes the inbox: what is in it can be taken, each later put is refused, and the taker
+    /// wakes. It cannot be opened again. Cost: one lock.
     pub fn close<R: Wait>(&self, rt: &R) {
         self.shut(rt);
         self.moved.notify_all();

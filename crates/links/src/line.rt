@@ -50,13 +50,17 @@ impl<T: Drop> Line<T> {
 
     /// Puts a message last on an edge, and says whether it is the first of all that wait.
     pub fn put(&mut self, edge: usize, message: T) -> Result<bool, Unsent<T>>
-        ensures put { OnOk result (self.new ≡ record self.old { queues = put_on self.old.queues edge message }) }
+        ensures put { OnOk result (self.new
+            ≡ record self.old { queues = put_on self.old.queues edge message }) }
         ensures first { IfOk result (λ f. f ≡ not (holds_any self.old.queues)) }
         ensures refused { OnErr result (self.new ≡ self.old) }
         ensures back { IfErr result (λ u. u.message ≡ message) }
-        ensures closed { self.old.closed ≡ true → IsErrAnd result (λ u. u.refused ≡ Refused.Stopped) }
-        ensures memory { self.old.closed ≡ false → edge < length self.old.queues → IfErr result (λ u. u.refused ≡ Refused.NoMemory) }
-        ensures only { IfErr result (λ u. (u.refused ≡ Refused.NoMemory) ⊎ (u.refused ≡ Refused.Stopped)) }
+        ensures closed { self.old.closed ≡ true
+            → IsErrAnd result (λ u. u.refused ≡ Refused.Stopped) }
+        ensures memory { self.old.closed ≡ false → edge < length self.old.queues
+            → IfErr result (λ u. u.refused ≡ Refused.NoMemory) }
+        ensures only { IfErr result (λ u. (u.refused ≡ Refused.NoMemory)
+            ⊎ (u.refused ≡ Refused.Stopped)) }
     {
         if self.closed || edge >= self.queues.edges() {
             return Err(Unsent::new(Refused::Stopped, message));
@@ -71,9 +75,11 @@ impl<T: Drop> Line<T> {
     pub fn give(&mut self, taken: &mut Queues<T>) -> Taking
         requires empty { holds_any taken.old ≡ false }
         ensures count { length taken.new ≡ length taken.old }
-        ensures taken { result ≡ Taking.Taken → (taken.new ≡ self.old.queues) × (self.new ≡ record self.old { queues = taken.old }) × (holds_any taken.new ≡ true) }
+        ensures taken { result ≡ Taking.Taken → (taken.new ≡ self.old.queues)
+            × (self.new ≡ record self.old { queues = taken.old }) × (holds_any taken.new ≡ true) }
         ensures closed { result ≡ Taking.Closed → (taken.new ≡ taken.old) × (self.new ≡ self.old) }
-        ensures gives { holds_any self.old.queues ≡ true → length taken.old ≡ length self.old.queues → result ≡ Taking.Taken }
+        ensures gives { holds_any self.old.queues ≡ true
+            → length taken.old ≡ length self.old.queues → result ≡ Taking.Taken }
     {
         if !self.filled || self.queues.edges() != taken.edges() {
             return Taking::Closed;

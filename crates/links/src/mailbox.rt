@@ -5,9 +5,9 @@ use std::sync::atomic::{AtomicBool, Ordering};
 use std::sync::{Condvar, Mutex, Wait};
 
 /// A place for one reply to one session that waits: a channel of one place whose senders never wait
-/// for it to be empty. It takes no memory. A reply that nobody took gives way to the next: a session
-/// tells by what a reply carries whether it is to its call. Who waits looks a few times before it
-/// sleeps. What comes no contract says.
+/// for it to be empty. It takes no memory. A reply that nobody took gives way to the next: a
+/// session tells by what a reply carries whether it is to its call. Who waits looks a few times
+/// before it sleeps. What comes no contract says.
 #[derive(Drop)]
 pub struct Mailbox<T: Drop> {
     reply: Mutex<Option<T>>,

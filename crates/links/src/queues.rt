@@ -60,7 +60,8 @@ impl<T: Drop> Queues<T> {
     /// Takes no memory. Constant time.
     pub fn pop(&mut self, edge: usize) -> Option<T>
         ensures first { result ≡ slice_get (slice_index_or self.old edge []) 0 }
-        ensures rest { self.new ≡ slice_set self.old edge (drop 1 (slice_index_or self.old edge [])) }
+        ensures rest { self.new ≡ slice_set self.old edge (drop 1
+            (slice_index_or self.old edge [])) }
     {
         if edge < self.waiting.len() {
             self.waiting[edge].pop()

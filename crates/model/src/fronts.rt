@@ -65,8 +65,8 @@ pub trait Fronts: Drop {
             × (authors f ≡ authors (front right.now))) }
         ensures only { OnErr result may_refuse };
 
-    /// The step of a base shard: its log is this front and one entry more, or its word has moved, and
-    /// then the right stays as it was. Errors: memory only, before the step.
+    /// The step of a base shard: its log is this front and one entry more, or its word has moved,
+    /// and then the right stays as it was. Errors: memory only, before the step.
     fn append(
         right: &mut Self::Right,
         alloc: Global,

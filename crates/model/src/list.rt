@@ -20,8 +20,8 @@ pub struct Logged {
     pub entry: Entry,
 }
 
-/// A front that has its list of entries. Copies share it, and take no memory. Of its log it knows that
-/// list alone, so no word is ever seen to have moved.
+/// A front that has its list of entries. Copies share it, and take no memory. Of its log it knows
+/// that list alone, so no word is ever seen to have moved.
 #[derive(Drop)]
 pub struct ListFront<'p> {
     plan: &'p Plan,
@@ -37,7 +37,14 @@ impl<'p> Model for ListFront<'p> {
 
     ghost Value = { ListView };
 
-    ghost view = { λ f. record { log = record { plan = f.plan.now; base = f.base; entries = changes_of f.entries.value.items }; authors = authors_of f.entries.value.items } };
+    ghost view = { λ f. record {
+      log = record {
+        plan = f.plan.now;
+        base = f.base;
+        entries = changes_of f.entries.value.items;
+      };
+      authors = authors_of f.entries.value.items;
+    } };
 
     ghost invariant = { λ f. (f.len ≡ length f.entries.value.items) × IsLog (record {
       plan = f.plan.now;

@@ -128,7 +128,8 @@ pub fn sources(alloc: Global, plan: &Plan) -> Result<Vec<usize>, AllocError>
 fn push_bases(plan: &Plan, side: &Side, bases: &mut Vec<usize>) -> Result<(), AllocError>
     requires table { side.now.table < length plan.now.tables }
     requires range { Each (λ b. b < base_count plan.now) bases.old.items }
-    ensures bases { OnOk result (bases.new.items ≡ bases.old.items ++ side_bases plan.now side.now) }
+    ensures bases { OnOk result (bases.new.items
+        ≡ bases.old.items ++ side_bases plan.now side.now) }
     ensures range { OnOk result (Each (λ b. b < base_count plan.now) bases.new.items) }
 {
     for shard in 0..plan.table(side.table()).shards() {

@@ -17,9 +17,9 @@ const USAGE: &str =
 
 /// Runs the program on the words behind its name, and gives the exit status: 0 where all was run,
 /// also where single calls were refused; 1 where a recipe, a script, the start, a file, the memory
-/// or the output was refused, with the refusal on `err`; 2 for any words but `run RECIPE SCRIPT` and
-/// `race RECIPE SCRIPT..`, with the usage line there. A failed write to `err` leaves the status as it
-/// is. All threads that it starts have ended.
+/// or the output was refused, with the refusal on `err`; 2 for any words but `run RECIPE SCRIPT`
+/// and `race RECIPE SCRIPT..`, with the usage line there. A failed write to `err` leaves the status
+/// as it is. All threads that it starts have ended.
 pub fn command<R: Threads + Wait + Copy + Drop + Send + 'static, T: Texts, O: Write, E: Write>(
     rt: R,
     alloc: Global,

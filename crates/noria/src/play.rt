@@ -25,14 +25,14 @@ const SCRIPTS: usize = 15;
 pub enum Play {
     /// One session makes these calls in turn.
     Run(Vec<Call>),
-    /// Each script runs in a session and a thread of its own; then one session more makes the closing
-    /// fence and reads.
+    /// Each script runs in a session and a thread of its own; then one session more makes the
+    /// closing fence and reads.
     Race(Vec<Vec<Call>>),
 }
 
 /// Starts the plan, plays, and writes the answers. `NoSessionLeft` where more than fifteen scripts
 /// race, and nothing is started. All threads that it starts have ended.
-pub fn start<R: Threads + Wait + Copy + Drop + Send + 'static, O: Write>(
+pub fn play<R: Threads + Wait + Copy + Drop + Send + 'static, O: Write>(
     rt: R,
     alloc: Global,
     plan: Plan,

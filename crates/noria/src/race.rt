@@ -15,10 +15,10 @@ use std::sync::Wait;
 use std::thread::{self, JoinHandle, Threads};
 use system::system::System;
 
-/// Reads and checks the recipe and then the scripts of these names, starts the recipe's plan, and runs
-/// all scripts at once. It writes what each came to, then makes one fence in a session that has met
-/// all others, and the closing reads of all scripts in order. `NoSessionLeft` where there are more
-/// than fifteen scripts. All threads that it starts have ended.
+/// Reads and checks the recipe and then the scripts of these names, starts the recipe's plan, and
+/// runs all scripts at once. It writes what each came to, then makes one fence in a session that
+/// has met all others, and the closing reads of all scripts in order. `NoSessionLeft` where there
+/// are more than fifteen scripts. All threads that it starts have ended.
 pub fn race_files<R: Threads + Wait + Copy + Drop + Send + 'static, T: Texts, O: Write>(
     rt: R,
     alloc: Global,
@@ -36,8 +36,8 @@ pub fn race_files<R: Threads + Wait + Copy + Drop + Send + 'static, T: Texts, O:
     start(rt, alloc, plan, Play::Race(all), out)
 }
 
-// What a script came to: its session, how many writes were accepted and calls refused, and its closing
-// reads, which were not made yet.
+// What a script came to: its session, how many writes were accepted and calls refused, and its
+// closing reads, which were not made yet.
 #[derive(Drop)]
 struct Raced<J: Naming> {
     session: Session<J>,

@@ -50,8 +50,8 @@ fn row_of(alloc: Global, plan: &Plan, table: &str, words: Vec<String>) -> Result
     Ok(Row::new(cells))
 }
 
-// The kind by which a key of the table is read: that of its key column, and a text where there is no
-// such table.
+// The kind by which a key of the table is read: that of its key column, and a text where there is
+// no such table.
 fn kind_of_table(plan: &Plan, table: &str) -> Kind
     ensures { result ≡ kind_of_table plan.now table.now }
 {

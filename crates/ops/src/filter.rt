@@ -15,7 +15,8 @@ use std::alloc::{AllocError, Global};
 /// The rows for which all conditions of the side hold, as a bag. Errors: memory only. Cost: a look
 /// at each row, and a copy of each that passes.
 pub fn full(alloc: Global, side: &Side, rows: &[Row]) -> Result<Bag, AllocError>
-    ensures { IfOk result (λ bag. bag ≡ sorted row_cmp (filter (pass side.now.conditions) rows.now)) }
+    ensures { IfOk result (λ bag. bag
+        ≡ sorted row_cmp (filter (pass side.now.conditions) rows.now)) }
 {
     let mut bag = Bag::new(alloc);
     for row in rows {

@@ -173,7 +173,8 @@ impl<P: Drop> Edges<P> {
         }
     }
 
-    /// All that is on an edge, in order, moved out of it; then nothing is on it. It takes no memory.
+    /// All that is on an edge, in order, moved out of it; then nothing is on it. It takes no
+    /// memory.
     pub fn take(&mut self, alloc: Global, edge: usize) -> Vec<P>
         requires { edge < length self.old }
         ensures packets { result.items ≡ (slice_index_or self.old edge no_edge).packets }

@@ -84,8 +84,8 @@ impl Model for Marks {
 }
 
 impl Marks {
-    /// A marker has come from a sender: the marker, where it has come from each of them now. Errors:
-    /// memory only; then all is as it was. Cost: a look at each marker that waits.
+    /// A marker has come from a sender: the marker, where it has come from each of them now.
+    /// Errors: memory only; then all is as it was. Cost: a look at each marker that waits.
     pub fn come(
         &mut self,
         alloc: Global,

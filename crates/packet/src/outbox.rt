@@ -64,8 +64,8 @@ impl<F: Fronts> Outbox<F> {
         self.edges.reserve()
     }
 
-    /// Puts a packet on the edge to one stage shard, and nothing on the others. `NoMemory` leaves all
-    /// edges clear.
+    /// Puts a packet on the edge to one stage shard, and nothing on the others. `NoMemory` leaves
+    /// all edges clear.
     pub fn send_to_one(&mut self, stage: usize, packet: BasePacket<F>) -> Result<(), Refused>
         requires clear { packets_on self.old.edges ≡ none_of self.old.edges }
         requires stage { stage < length self.old.edges }

@@ -24,9 +24,9 @@ pub struct Content {
 }
 
 /// What a stage shard tells a shard of a view, between two lines. By its type it is true: as bags,
-/// the stage shard's part of each key at the one line with the changes of the key is its part at the
-/// other, but for the keys that it evicts, each once and in order; and a piece is the stage shard's
-/// part of its key. The line has a front of each source of its plan.
+/// the stage shard's part of each key at the one line with the changes of the key is its part at
+/// the other, but for the keys that it evicts, each once and in order; and a piece is the stage
+/// shard's part of its key. The line has a front of each source of its plan.
 #[derive(Drop)]
 pub struct StagePacket<F: Fronts> {
     stage: usize,

@@ -40,7 +40,11 @@ impl<K: Eq + Hash, E> Model for Partial<K, E> {
 
     ghost Value = { Kept K E };
 
-    ghost view = { λ p. record { sources = p.sources; filled = p.filled; waiting = p.waiting.entries } };
+    ghost view = { λ p. record {
+      sources = p.sources;
+      filled = p.filled;
+      waiting = p.waiting.entries;
+    } };
 
     ghost invariant = { λ p. IsApart K.eq record {
       sources = p.sources;

@@ -92,7 +92,8 @@ pub fn fronts_of(
     items: &[Item],
     cut: &Lengths,
 ) -> Result<Vec<Line>, AllocError>
-    ensures { IfOk result (λ lines. lines.items ≡ fronts_of plan.now (history_of items.now) cut.now) }
+    ensures { IfOk result (λ lines. lines.items
+        ≡ fronts_of plan.now (history_of items.now) cut.now) }
 {
     let mut lines = Vec::new(alloc);
     for stage in 0..cut.stages() {

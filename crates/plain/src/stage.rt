@@ -65,8 +65,8 @@ fn sides<'a>(plan: &Plan, line: &'a Line) -> (&'a [Front], &'a [Front])
     fronts.split_at(count.min(fronts.len()))
 }
 
-/// The left rows of the stage shard over the line, and the right rows: over all shards of the side's
-/// table, the rows of the front whose stage key has the stage shard and that pass the side's
+/// The left rows of the stage shard over the line, and the right rows: over all shards of the
+/// side's table, the rows of the front whose stage key has the stage shard and that pass the side's
 /// conditions; no right rows where the stage has no right side. Errors: memory only. Costs what the
 /// rows of the fronts cost.
 pub fn rows_of_sides(

@@ -27,7 +27,15 @@ impl Model for Draft {
 
     ghost Value = { Layout };
 
-    ghost view = { λ d. record { tables = d.tables.items; stages = d.stages; left = d.left; right = d.right; aggregate = d.aggregate; cap = d.cap; views = d.views.items } };
+    ghost view = { λ d. record {
+      tables = d.tables.items;
+      stages = d.stages;
+      left = d.left;
+      right = d.right;
+      aggregate = d.aggregate;
+      cap = d.cap;
+      views = d.views.items;
+    } };
 }
 
 impl Draft {

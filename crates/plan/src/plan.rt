@@ -30,7 +30,12 @@ impl Model for ViewPlan {
 
     ghost Value = { ViewLayout };
 
-    ghost view = { λ v. record { name = string_bytes v.name; key = v.key; shards = v.shards; cap = v.cap } };
+    ghost view = { λ v. record {
+      name = string_bytes v.name;
+      key = v.key;
+      shards = v.shards;
+      cap = v.cap;
+    } };
 }
 
 impl ViewPlan {
@@ -95,9 +100,25 @@ impl Model for Plan {
 
     ghost Value = { Layout };
 
-    ghost view = { λ p. record { tables = p.tables.items; stages = p.stages; left = p.left; right = p.right; aggregate = p.aggregate; cap = p.cap; views = p.views.items } };
+    ghost view = { λ p. record {
+      tables = p.tables.items;
+      stages = p.stages;
+      left = p.left;
+      right = p.right;
+      aggregate = p.aggregate;
+      cap = p.cap;
+      views = p.views.items;
+    } };
 
-    ghost invariant = { λ p. IsPlan (record { tables = p.tables.items; stages = p.stages; left = p.left; right = p.right; aggregate = p.aggregate; cap = p.cap; views = p.views.items }) };
+    ghost invariant = { λ p. IsPlan (record {
+      tables = p.tables.items;
+      stages = p.stages;
+      left = p.left;
+      right = p.right;
+      aggregate = p.aggregate;
+      cap = p.cap;
+      views = p.views.items;
+    }) };
 }
 
 impl Plan {
@@ -277,8 +298,8 @@ impl Plan {
         &self.views[view]
     }
 
-    /// The place in an output row of the column that keys the view: the first where the rows of each
-    /// key are counted or summed, and else the left column that keys it. Constant time.
+    /// The place in an output row of the column that keys the view: the first where the rows of
+    /// each key are counted or summed, and else the left column that keys it. Constant time.
     pub fn key_place(&self, view: usize) -> usize
         requires { view < length self.now.views }
         ensures { result ≡ key_place self.now.right self.now.aggregate (view_at self.now view).key }

@@ -78,7 +78,12 @@ impl Model for Table {
 
     ghost Value = { TableLayout };
 
-    ghost view = { λ t. record { name = string_bytes t.name; shards = t.shards; key = t.key; columns = t.columns.items } };
+    ghost view = { λ t. record {
+      name = string_bytes t.name;
+      shards = t.shards;
+      key = t.key;
+      columns = t.columns.items;
+    } };
 }
 
 impl Table {

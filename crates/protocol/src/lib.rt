@@ -11,8 +11,8 @@ pub fn every_schedule()
     ensures legal { EverySchedule }
 {}
 
-/// For every plan and every schedule, between any two deliveries, the first packet on each edge to a
-/// domain that runs starts at the front that the domain holds: none is out of turn.
+/// For every plan and every schedule, between any two deliveries, the first packet on each edge to
+/// a domain that runs starts at the front that the domain holds: none is out of turn.
 pub fn every_turn()
     ensures next { EveryTurn }
 {}

@@ -17,12 +17,12 @@ use toml::Value;
 
 /// The plan that a recipe says, or its refusal, with the place of the fault.
 ///
-/// The passes, of which the first that finds a fault answers: the text is TOML (20); each field that
-/// is needed is there (21) and of its kind, and there are no others (23); limits and the form of
-/// names are kept (26); names are apart (27); named tables and columns are there (22); no table
-/// reaches the views by two ways (24); views are keyed by a left column, in a group by the stage key
-/// (25); kinds agree (23). Want of memory is 1. Whatever the answer, nothing is left behind. Cost: a
-/// look at each byte, and at each pair of names.
+/// The passes, of which the first that finds a fault answers: the text is TOML (20); each field
+/// that is needed is there (21) and of its kind, and there are no others (23); limits and the form
+/// of names are kept (26); names are apart (27); named tables and columns are there (22); no table
+/// reaches the views by two ways (24); views are keyed by a left column, in a group by the stage
+/// key (25); kinds agree (23). Want of memory is 1. Whatever the answer, nothing is left behind.
+/// Cost: a look at each byte, and at each pair of names.
 pub fn from_toml(alloc: Global, text: &str) -> Result<Plan, PlanError>
     // Want of memory aside, the answer is that of the definition: the plan, or the first refusal.
     ensures exact { Gives (λ p. p) result (plan_of text.now) }

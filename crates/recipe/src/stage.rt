@@ -298,7 +298,13 @@ impl Model for StageParts {
 
     ghost Value = { StageLayout };
 
-    ghost view = { λ s. record { shards = s.shards; left = s.left; right = s.right; aggregate = s.aggregate; cap = s.cap } };
+    ghost view = { λ s. record {
+      shards = s.shards;
+      left = s.left;
+      right = s.right;
+      aggregate = s.aggregate;
+      cap = s.cap;
+    } };
 }
 
 /// The stage of a document over these tables.

@@ -1,6 +1,6 @@
-//! Reads recipes from standard input, and prints what each is: its plan, or its refusal. Each stands
-//! behind a line `== NAME`. Lines `? left ROW` and `? right ROW` may follow: it prints whether the row,
-//! in words of a script, passes the conditions of that side.
+//! Reads recipes from standard input, and prints what each is: its plan, or its refusal. Each
+//! stands behind a line `== NAME`. Lines `? left ROW` and `? right ROW` may follow: it prints
+//! whether the row, in words of a script, passes the conditions of that side.
 #![tactic(auto)]
 
 mod plans;

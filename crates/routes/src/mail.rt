@@ -131,8 +131,8 @@ impl<J: Naming> Reply<J> {
     }
 }
 
-/// A key that a session waits for: which session, the number of its wait, and the key twice, once for
-/// the view shard and once for the place where the session waits there.
+/// A key that a session waits for: which session, the number of its wait, and the key twice, once
+/// for the view shard and once for the place where the session waits there.
 #[derive(Drop)]
 pub struct Want {
     pub session: usize,
@@ -141,8 +141,8 @@ pub struct Want {
     pub waits: Value,
 }
 
-/// What comes to a view shard: a packet of a stage shard, a key that a session wants, or an order to
-/// evict a key.
+/// What comes to a view shard: a packet of a stage shard, a key that a session wants, or an order
+/// to evict a key.
 #[derive(Drop)]
 pub enum ViewMail<J: Naming> {
     Packet {

@@ -28,10 +28,10 @@ use std::alloc::{AllocError, Global};
 use std::marker::Model;
 use std::sync::Wait;
 
-/// The plan, the book, and the ways between the threads: an inbox for each domain; for each session a
-/// mailbox for the replies to its writes, one for each view shard's acknowledgement of its fences,
-/// and a bell; and which domains have stopped. All of it is made at the start, so that a reply, an
-/// acknowledgement or a ring takes no memory.
+/// The plan, the book, and the ways between the threads: an inbox for each domain; for each session
+/// a mailbox for the replies to its writes, one for each view shard's acknowledgement of its
+/// fences, and a bell; and which domains have stopped. All of it is made at the start, so that a
+/// reply, an acknowledgement or a ring takes no memory.
 #[derive(Drop)]
 pub struct Routes<J: Naming> {
     plan: Plan,
@@ -220,8 +220,8 @@ impl<J: Naming> Routes<J> {
         }
     }
 
-    /// Waits for a reply to a session. A base shard replies to each write that was sent, also when it
-    /// has stopped. `None` only where there is no such session.
+    /// Waits for a reply to a session. A base shard replies to each write that was sent, also when
+    /// it has stopped. `None` only where there is no such session.
     pub fn wait_reply<R: Wait>(&self, rt: &R, session: usize) -> Option<Reply<J>> {
         self.replies.get(session)?.receive(rt)
     }
@@ -234,9 +234,9 @@ impl<J: Naming> Routes<J> {
         }
     }
 
-    /// Waits for a view shard's acknowledgement of a session's fence: the number of the fence's call.
-    /// `None` where there is none and one is no longer to come, since the view shard, a stage shard or
-    /// a source has stopped.
+    /// Waits for a view shard's acknowledgement of a session's fence: the number of the fence's
+    /// call. `None` where there is none and one is no longer to come, since the view shard, a stage
+    /// shard or a source has stopped.
     pub fn wait_ack<R: Wait>(&self, rt: &R, session: usize, reader: usize) -> Option<u64> {
         let mailbox = self.acks.get(self.ack_place(session, reader))?;
         mailbox.wait(rt, &self.cut_off, reader)
@@ -291,8 +291,8 @@ impl<J: Naming> Routes<J> {
         self.stops.has(self.place(domain))
     }
 
-    /// Whether a view shard, a stage shard or a source has stopped, so that nothing new comes to the
-    /// view shard, or not all. It waits for nobody and takes no memory.
+    /// Whether a view shard, a stage shard or a source has stopped, so that nothing new comes to
+    /// the view shard, or not all. It waits for nobody and takes no memory.
     pub fn is_cut_off(&self, reader: usize) -> bool {
         self.cut_off.has(reader)
     }

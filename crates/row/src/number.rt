@@ -17,7 +17,8 @@ fn number_of(value: &Value) -> i128
     }
 }
 
-/// The number that the row has in the column; 0 for a text, and past the row's end. Takes no memory.
+/// The number that the row has in the column; 0 for a text, and past the row's end. Takes no
+/// memory.
 pub fn number_at(row: &Row, column: usize) -> i128
     ensures { result ≡ number_of (cell_at row.now column) }
 {
@@ -25,8 +26,8 @@ pub fn number_at(row: &Row, column: usize) -> i128
     number_of(row.cell_or(column, &zero))
 }
 
-/// The exact sum of a column: numbers of 64 bits in as many rows as a slice can have stay within 128
-/// bits. Takes no memory. Cost: a look at each row.
+/// The exact sum of a column: numbers of 64 bits in as many rows as a slice can have stay within
+/// 128 bits. Takes no memory. Cost: a look at each row.
 pub fn sum(column: usize, rows: &[Row]) -> i128
     requires { list_all (is_small_at column) rows.now ≡ true }
     ensures { result ≡ sum_of column rows.now }

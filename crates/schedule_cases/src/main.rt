@@ -1,6 +1,6 @@
 //! Reads schedules from standard input, and prints what each event is answered. A line `== NAME`
-//! goes before each schedule, then the recipe of its plan, and then a line `? EVENT` for each event.
-//! Of a recipe that is refused, it prints that alone.
+//! goes before each schedule, then the recipe of its plan, and then a line `? EVENT` for each
+//! event. Of a recipe that is refused, it prints that alone.
 #![tactic(auto)]
 
 mod events;

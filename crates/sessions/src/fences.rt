@@ -25,15 +25,15 @@ impl<J: Naming> Session<J> {
     ghost use Rattle.sessions.specs.Inserts.{stolen_refusal};
 
     /// Raises the floors, as one step: afterwards each floor has, for each stage shard, every entry
-    /// of a source that the session had seen, and each of its own accepted writes there. It looks at
-    /// each source's log, sends a marker through all sources, and waits until it has come through to
-    /// each shard of each view. The floors are the cuts that are then shown.
+    /// of a source that the session had seen, and each of its own accepted writes there. It looks
+    /// at each source's log, sends a marker through all sources, and waits until it has come
+    /// through to each shard of each view. The floors are the cuts that are then shown.
     ///
     /// Refused with `Stolen` where the session's call numbers are spent or its word was moved by
-    /// another, `Stopped` where a part that it needs or the store has stopped, `Behind` where less is
-    /// shown of a source than was looked at, or `NoMemory`. A refused fence leaves the floors and what
-    /// was accepted, and but for `Stolen` what was seen. Cost: one message for each source, one
-    /// acknowledgement and a cut for each shard of each view.
+    /// another, `Stopped` where a part that it needs or the store has stopped, `Behind` where less
+    /// is shown of a source than was looked at, or `NoMemory`. A refused fence leaves the floors
+    /// and what was accepted, and but for `Stolen` what was seen. Cost: one message for each
+    /// source, one acknowledgement and a cut for each shard of each view.
     pub fn fence<R: Wait>(&mut self, rt: &R, alloc: Global) -> Result<(), Refused>
         ensures legal { IsLegal J.plan J.sessions self.new.seen }
         ensures spent { stolen_refusal self.old ≡ Some Refused.Stolen

@@ -18,10 +18,10 @@ impl<J: Naming> Session<J> {
     /// Orders the key's view shard to evict a key of a view. It is answered once the order is sent,
     /// and changes nothing of the session.
     ///
-    /// Refused with, looked for in this order: `Stolen` where the session's call numbers are spent or
-    /// its word was found moved before, `UnknownView`, `BadKey`, `Stopped` where the view shard or the
-    /// store has stopped; `NoMemory` at any place after `BadKey`. Cost: a look at each view's name,
-    /// a copy of the key and one message.
+    /// Refused with, looked for in this order: `Stolen` where the session's call numbers are spent
+    /// or its word was found moved before, `UnknownView`, `BadKey`, `Stopped` where the view shard
+    /// or the store has stopped; `NoMemory` at any place after `BadKey`. Cost: a look at each
+    /// view's name, a copy of the key and one message.
     pub fn evict_view<R: Wait>(
         &mut self,
         rt: &R,
@@ -52,10 +52,10 @@ impl<J: Naming> Session<J> {
     /// How many requests the shards of a view had sent, in all, as they are now shown; at most the
     /// greatest number. It waits for nobody.
     ///
-    /// Refused with, looked for in this order: `Stolen` where the session's call numbers are spent or
-    /// its word was found moved before, `UnknownView`; then `NoMemory`. It changes nothing of the
-    /// session but what it has looked at. Cost: a look at each view's name, and at what is shown of
-    /// each of its shards.
+    /// Refused with, looked for in this order: `Stolen` where the session's call numbers are spent
+    /// or its word was found moved before, `UnknownView`; then `NoMemory`. It changes nothing of
+    /// the session but what it has looked at. Cost: a look at each view's name, and at what is
+    /// shown of each of its shards.
     pub fn asked(&mut self, view: &str) -> Result<u64, Refused>
         ensures why { IfSome (named_refusal J.plan self.old view.now)
             (λ e. (result ≡ Err e) × (self.new ≡ self.old)) }

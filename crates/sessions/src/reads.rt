@@ -52,11 +52,11 @@ impl<J: Naming> Session<J> {
     /// for the key over the cut that it names, which is never below the session's floor there. A
     /// miss changes nothing.
     ///
-    /// Refused with, looked for in this order: `Stolen` where the session's call numbers are spent or
-    /// its word was found moved before, `UnknownView`, `BadKey` where the key is no cell of the key
-    /// column; then `NoMemory`, or `Stolen` where its word was moved by another. A refused read leaves
-    /// the floors and what was accepted, and but for `Stolen` what was seen. Cost: a look at each
-    /// view's name, one look-up and two copies of the rows and of the cut.
+    /// Refused with, looked for in this order: `Stolen` where the session's call numbers are spent
+    /// or its word was found moved before, `UnknownView`, `BadKey` where the key is no cell of the
+    /// key column; then `NoMemory`, or `Stolen` where its word was moved by another. A refused read
+    /// leaves the floors and what was accepted, and but for `Stolen` what was seen. Cost: a look at
+    /// each view's name, one look-up and two copies of the rows and of the cut.
     pub fn try_read(&mut self, alloc: Global, view: &str, key: &Value) -> Result<Found, Refused>
         ensures legal { IsLegal J.plan J.sessions self.new.seen }
         ensures why { IfSome (asked_refusal J.plan self.old view.now (datum_of key.now))
@@ -161,14 +161,15 @@ impl<J: Naming> Session<J> {
         }
     }
 
-    /// Reads a key of a view: tries as `try_read`, and at a miss asks the key's view shard to fill the
-    /// key, waits until it was filled there, and tries again. An answer is that of the last try.
+    /// Reads a key of a view: tries as `try_read`, and at a miss asks the key's view shard to fill
+    /// the key, waits until it was filled there, and tries again. An answer is that of the last
+    /// try.
     ///
-    /// Refused as `try_read` is; at a miss then with `Stopped` where the view shard, a stage shard or
-    /// a source has stopped, or the store; `Busy` at the 64th miss; `Stolen` where the numbers of the
-    /// session's waits are spent. A refused read leaves the floors and what was accepted, and but for
-    /// `Stolen` what was seen. Cost: for each miss that of a look-up, two copies of the key, one
-    /// message and one wait.
+    /// Refused as `try_read` is; at a miss then with `Stopped` where the view shard, a stage shard
+    /// or a source has stopped, or the store; `Busy` at the 64th miss; `Stolen` where the numbers
+    /// of the session's waits are spent. A refused read leaves the floors and what was accepted,
+    /// and but for `Stolen` what was seen. Cost: for each miss that of a look-up, two copies of the
+    /// key, one message and one wait.
     pub fn read<R: Wait>(
         &mut self,
         rt: &R,

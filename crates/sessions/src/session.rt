@@ -182,8 +182,9 @@ impl<J: Naming> Session<J> {
         self.write(rt, alloc, table, Entry::Update(row))
     }
 
-    /// Takes the row of a key away, as `insert`, with `BadKey` in the place of `BadRow`, where the key
-    /// is no cell of the key column, and `Absent` in the place of `Duplicate`, where no row has it.
+    /// Takes the row of a key away, as `insert`, with `BadKey` in the place of `BadRow`, where the
+    /// key is no cell of the key column, and `Absent` in the place of `Duplicate`, where no row has
+    /// it.
     pub fn delete<R: Wait>(
         &mut self,
         rt: &R,

@@ -93,9 +93,9 @@ impl<J: Naming> Sights<J> {
         self.readers[place].cut(alloc)
     }
 
-    /// The cut of what is now shown of each shard of each view, for each stage shard no less of each
-    /// source than the fronts. Errors: `Behind` where one has less, and `NoMemory`; it may then have
-    /// seen more.
+    /// The cut of what is now shown of each shard of each view, for each stage shard no less of
+    /// each source than the fronts. Errors: `Behind` where one has less, and `NoMemory`; it may
+    /// then have seen more.
     pub(crate) fn cuts(
         &mut self,
         alloc: Global,

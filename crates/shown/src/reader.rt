@@ -120,7 +120,8 @@ impl<J: Naming> ShownReader<J> {
     }
 
     /// Looks at how many requests the view's shard had sent; the count stays at the greatest
-    /// number. It waits for nobody and takes no memory. Errors: `NoMemory` where the writer is gone.
+    /// number. It waits for nobody and takes no memory. Errors: `NoMemory` where the writer is
+    /// gone.
     pub fn asked(&mut self) -> Result<u64, Refused>
         ensures later { IsLater self.old self.new }
         ensures asked { IfOk result (λ n. n ≡ self.new.asked) }

@@ -41,8 +41,8 @@ impl<T: Absorb<O> + Drop, O: Drop, V, P: Protocol<T, V>, R: Wait + Drop> Drop
 /// The writing end of a shown copy.
 pub type ShownWriter<J, R> = Board<Shown<J>, Delta<J>, Sight, Published, R>;
 
-/// The shown copy of a shard of a view, by the one right to it: it shows no key, over no entries, and
-/// has places for so many readers. Errors: memory only.
+/// The shown copy of a shard of a view, by the one right to it: it shows no key, over no entries,
+/// and has places for so many readers. Errors: memory only.
 pub fn open<J: Naming, R: Wait + Drop>(
     rt: R,
     alloc: Global,
@@ -129,7 +129,8 @@ impl<J: Naming, R: Wait + Drop> ShownWriter<J, R> {
         }
     }
 
-    // Puts a step behind those that are not published yet. Where memory is refused, nothing changes.
+    // Puts a step behind those that are not published yet. Where memory is refused, nothing
+    // changes.
     fn append(&mut self, delta: Delta<J>) -> Result<(), AllocError>
         ensures ahead { OnOk result (ahead (state self.new)
             ≡ applied (ahead (state self.old)) delta) }

@@ -24,7 +24,8 @@ use row::value::shard_of;
 use stage_rows::rows::StageRows;
 use std::alloc::{AllocError, Global};
 
-/// Answers a request with one packet to the view shard of its key. `NoMemory` leaves all edges clear.
+/// Answers a request with one packet to the view shard of its key. `NoMemory` leaves all edges
+/// clear.
 pub(crate) fn answer_request<'p, F: Fronts>(
     alloc: Global,
     plan: &Plan,

@@ -22,9 +22,10 @@ use row::refused::Refused;
 use stage_rows::rows::StageRows;
 use std::alloc::{AllocError, Global};
 
-/// Takes the packet of an entry, which starts at the front that the line has of its source: the rows
-/// of its side change, the front goes on, and each view shard gets a packet from the old line to the
-/// new. `NoMemory` leaves all edges clear and the line as it was, and nothing is said of the rows.
+/// Takes the packet of an entry, which starts at the front that the line has of its source: the
+/// rows of its side change, the front goes on, and each view shard gets a packet from the old line
+/// to the new. `NoMemory` leaves all edges clear and the line as it was, and nothing is said of the
+/// rows.
 pub(crate) fn take_entry<'p, F: Fronts>(
     alloc: Global,
     plan: &Plan,
@@ -64,7 +65,8 @@ pub(crate) fn take_entry<'p, F: Fronts>(
     Ok(())
 }
 
-/// Changes the rows, and answers the line with the packet's front, and the packet to each view shard.
+/// Changes the rows, and answers the line with the packet's front, and the packet to each view
+/// shard.
 fn entry_packets<'p, F: Fronts>(
     alloc: Global,
     plan: &Plan,

@@ -18,8 +18,8 @@ use row::record::Record;
 use std::alloc::{AllocError, Global};
 
 /// A packet to each shard of each view, view by view, from a line to another: each with what of the
-/// records of the output is its own, and with the marker. Errors: memory only. Cost: for each view a
-/// copy of each record, and for each of its shards a look at each and a copy of the line.
+/// records of the output is its own, and with the marker. Errors: memory only. Cost: for each view
+/// a copy of each record, and for each of its shards a look at each and a copy of the line.
 pub(crate) fn packets<F: Fronts>(
     alloc: Global,
     plan: &Plan,

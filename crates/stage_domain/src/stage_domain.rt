@@ -58,7 +58,8 @@ impl<'p, F: Fronts> Model for StageDomain<'p, F> {
 }
 
 impl<'p, F: Fronts> StageDomain<'p, F> {
-    /// The domain of a shard of the stage, over a line of fronts of empty logs. Errors: memory only.
+    /// The domain of a shard of the stage, over a line of fronts of empty logs. Errors: memory
+    /// only.
     pub fn new(
         alloc: Global,
         plan: &'p Plan,
@@ -135,12 +136,13 @@ impl<'p, F: Fronts> StageDomain<'p, F> {
     /// Takes one message into clear edges, one to each view shard of the plan, view by view.
     ///
     /// Where all goes well it does just what the step of the protocol says: the packet of an entry
-    /// moves the line, and each view shard gets one packet, also an empty one; a marker that has come
-    /// from every source goes to each; a request is answered at once. Errors, after which nothing is
-    /// on the edges: `Stopped` where it does not run, and then nothing changes; `Gap` where a packet
-    /// does not start at the front that is held of its source, and then it has stopped and all else is
-    /// as it was; `NoMemory`, and then it is broken. Cost: that of `StageRows::change` for an entry, of
-    /// `StageRows::piece` for a request, and a copy of the line for each packet.
+    /// moves the line, and each view shard gets one packet, also an empty one; a marker that has
+    /// come from every source goes to each; a request is answered at once. Errors, after which
+    /// nothing is on the edges: `Stopped` where it does not run, and then nothing changes; `Gap`
+    /// where a packet does not start at the front that is held of its source, and then it has
+    /// stopped and all else is as it was; `NoMemory`, and then it is broken. Cost: that of
+    /// `StageRows::change` for an entry, of `StageRows::piece` for a request, and a copy of the
+    /// line for each packet.
     pub fn receive(
         &mut self,
         alloc: Global,

@@ -30,8 +30,8 @@ impl<J: Naming + Send + Sync + 'static> Domains<J> {
         &self.routes
     }
 
-    /// Starts the thread of a domain, and waits until the domain begins or has stopped. Refused with
-    /// `NoMemory`, also where a thread is refused or the domain stopped before its first turn.
+    /// Starts the thread of a domain, and waits until the domain begins or has stopped. Refused
+    /// with `NoMemory`, also where a thread is refused or the domain stopped before its first turn.
     pub fn run<R: Threads + Wait, F: FnOnce() + Send + Drop + 'static>(
         &mut self,
         rt: &R,

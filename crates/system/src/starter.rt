@@ -61,8 +61,8 @@ impl<
     }
 
     /// Starts each domain of the plan, and gives a reader of what each shard of each view shows, in
-    /// order. Refused with `NoMemory`, also where a thread is refused or a domain stopped before its
-    /// first turn; those that were started run on.
+    /// order. Refused with `NoMemory`, also where a thread is refused or a domain stopped before
+    /// its first turn; those that were started run on.
     pub fn start(
         &mut self,
         part: &Part<J>,

@@ -1,4 +1,5 @@
-//! The calls of a session with no clause, so that the proof of a test does not carry what each says.
+//! The calls of a session with no clause, so that the proof of a test does not carry what each
+//! says.
 use crate::notes::note;
 use book::law::Naming;
 use model::entry::Entry;

@@ -36,7 +36,8 @@ use std::alloc::{AllocError, Global};
 use std::marker::Model;
 
 /// One shard of a view over its cut, a line for each stage shard: its keys as partial state. Each
-/// filled key has the view's rows over the cut, unless memory was refused in the midst of a message.
+/// filled key has the view's rows over the cut, unless memory was refused in the midst of a
+/// message.
 #[derive(Drop)]
 pub struct ViewDomain<'p, F: Fronts> {
     plan: &'p Plan,
@@ -66,8 +67,8 @@ impl<'p, F: Fronts> Model for ViewDomain<'p, F> {
 }
 
 impl<'p, F: Fronts> ViewDomain<'p, F> {
-    /// The domain of a shard of a view over a cut, which has a line of the plan for each stage shard.
-    /// No key is filled, and none waits. Errors: memory only.
+    /// The domain of a shard of a view over a cut, which has a line of the plan for each stage
+    /// shard. No key is filled, and none waits. Errors: memory only.
     pub fn new(
         alloc: Global,
         plan: &'p Plan,
@@ -147,7 +148,8 @@ impl<'p, F: Fronts> ViewDomain<'p, F> {
         self.kept.get(key)
     }
 
-    /// The line of each stage shard: unless it is broken, with a front of each source. Constant time.
+    /// The line of each stage shard: unless it is broken, with a front of each source. Constant
+    /// time.
     pub fn cut(&self) -> &[Line<F>]
         ensures cut { result.now ≡ self.now.cut }
         ensures of { self.now.mode ≢ Mode.Broken → Each (AreOf self.now.plan) result.now }
@@ -267,11 +269,11 @@ impl<'p, F: Fronts> ViewDomain<'p, F> {
     /// acknowledged whose marker has come from each stage shard; a hole that is wanted begins to
     /// wait, and each stage shard is asked; a filled key that is to go is a hole. What it tells its
     /// shown copy leads from what was held to what is held. Errors: `Gap` just where a packet does
-    /// not start at the line that is held of its stage shard, and it has then stopped, with all else
-    /// as it was; `NoMemory`, and then nothing is said of what it holds; `Stopped` where it had
-    /// stopped, and nothing changes. After an error nothing is put out. Cost: for a packet, that of
-    /// its keys and records, one look at each of its fronts, and one look-up for each; for a key,
-    /// the number of stage shards.
+    /// not start at the line that is held of its stage shard, and it has then stopped, with all
+    /// else as it was; `NoMemory`, and then nothing is said of what it holds; `Stopped` where it
+    /// had stopped, and nothing changes. After an error nothing is put out. Cost: for a packet,
+    /// that of its keys and records, one look at each of its fronts, and one look-up for each; for
+    /// a key, the number of stage shards.
     pub fn receive(
         &mut self,
         alloc: Global,

@@ -25,15 +25,16 @@ pub struct BaseTurn<J: Naming> {
     pub taken: Result<(), Refused>,
 }
 
-/// A base shard takes one message from its inbox into a clear outbox with an edge to each stage shard.
+/// A base shard takes one message from its inbox into a clear outbox with an edge to each stage
+/// shard.
 ///
-/// With `Ok` the domain did the step of the protocol, its packets are on the edges, and a write has its
-/// reply; or a write was refused for memory, and nothing changed but that it has this reply. Errors:
-/// `Gap` just where the message is for another base shard, and it has then stopped, with no reply;
-/// `Stopped` where it had stopped, and then a write is so answered, and where its log has gone on
-/// without it, as the front in the reply shows; `NoMemory` where that was refused for the packet of a
-/// request or a marker. After an error it does not run, and nothing is on the edges. Cost: that of
-/// `BaseDomain::receive`.
+/// With `Ok` the domain did the step of the protocol, its packets are on the edges, and a write has
+/// its reply; or a write was refused for memory, and nothing changed but that it has this reply.
+/// Errors: `Gap` just where the message is for another base shard, and it has then stopped, with no
+/// reply; `Stopped` where it had stopped, and then a write is so answered, and where its log has
+/// gone on without it, as the front in the reply shows; `NoMemory` where that was refused for the
+/// packet of a request or a marker. After an error it does not run, and nothing is on the edges.
+/// Cost: that of `BaseDomain::receive`.
 pub fn take_base<J: Naming>(
     alloc: Global,
     book: &Book<J>,

@@ -24,9 +24,9 @@ use schedule::wire::Spot;
 use std::alloc::Global;
 use std::sync::Wait;
 
-/// Takes one message after the other, and sends what it makes of each, until the inbox is closed and
-/// empty. A base shard that has stopped goes on refusing writes with `Stopped`. Where memory is refused
-/// for its domain, it stops before its first turn.
+/// Takes one message after the other, and sends what it makes of each, until the inbox is closed
+/// and empty. A base shard that has stopped goes on refusing writes with `Stopped`. Where memory is
+/// refused for its domain, it stops before its first turn.
 pub fn base_work<J: Naming, R: Wait, G: Gate>(
     rt: &R,
     alloc: Global,
@@ -71,8 +71,8 @@ fn id_of(plan: &Plan, base: usize) -> DomainId {
     }
 }
 
-// Takes one message, sends its packets, and then its reply. Where a packet is refused the domain stops:
-// a later one would come out of turn.
+// Takes one message, sends its packets, and then its reply. Where a packet is refused the domain
+// stops: a later one would come out of turn.
 fn turn<J: Naming, R: Wait>(
     rt: &R,
     alloc: Global,
@@ -122,8 +122,8 @@ fn pass_on<J: Naming, R: Wait>(
     }
 }
 
-// Sends the packets to each stage shard, in order, and leaves the outbox clear. Errors: a packet was
-// refused; none is sent after it.
+// Sends the packets to each stage shard, in order, and leaves the outbox clear. Errors: a packet
+// was refused; none is sent after it.
 fn send<J: Naming, R: Wait>(
     rt: &R,
     alloc: Global,

@@ -24,10 +24,11 @@ use std::alloc::Global;
 /// A stage shard takes one message from its inbox into clear edges, one to each view shard.
 ///
 /// With `Ok` the message was for it and in turn, the domain did the step of the protocol, and its
-/// packets are on the edges. Errors: `Gap` just where the message was not for it or a packet does not
-/// start at the front that is held of its source, and the domain has then stopped, with all else as
-/// it was; `NoMemory`, and then the domain does not run; `Stopped` where it did not run, and nothing
-/// changes. After an error nothing is on the edges. Cost: that of `StageDomain::receive`.
+/// packets are on the edges. Errors: `Gap` just where the message was not for it or a packet does
+/// not start at the front that is held of its source, and the domain has then stopped, with all
+/// else as it was; `NoMemory`, and then the domain does not run; `Stopped` where it did not run,
+/// and nothing changes. After an error nothing is on the edges. Cost: that of
+/// `StageDomain::receive`.
 pub fn take_stage<J: Naming>(
     alloc: Global,
     plan: &Plan,

@@ -25,9 +25,9 @@ use stage_domain::stage_domain::StageDomain;
 use std::alloc::Global;
 use std::sync::Wait;
 
-/// Takes one message after the other, and sends what it makes of each, until the inbox is closed and
-/// empty. What comes to a stage shard that has stopped is lost. Where memory is refused for its domain,
-/// it stops before its first turn.
+/// Takes one message after the other, and sends what it makes of each, until the inbox is closed
+/// and empty. What comes to a stage shard that has stopped is lost. Where memory is refused for its
+/// domain, it stops before its first turn.
 pub fn stage_work<J: Naming, R: Wait, G: Gate>(
     rt: &R,
     alloc: Global,
@@ -60,8 +60,8 @@ pub fn stage_work<J: Naming, R: Wait, G: Gate>(
     }
 }
 
-// Takes one message, where the domain runs, and sends its packets. Where a packet is refused the domain
-// stops: a later one would come out of turn.
+// Takes one message, where the domain runs, and sends its packets. Where a packet is refused the
+// domain stops: a later one would come out of turn.
 fn turn<J: Naming, R: Wait>(
     rt: &R,
     alloc: Global,

@@ -9,9 +9,9 @@ use std::alloc::{AllocError, Global};
 use std::marker::Model;
 use std::sync::Wait;
 
-/// The messages that a thread has taken from its inbox and has not begun, and the number of its turn.
-/// It goes on with an edge until no message of it is left, then with the next edge; it takes more
-/// where none is left on any.
+/// The messages that a thread has taken from its inbox and has not begun, and the number of its
+/// turn. It goes on with an edge until no message of it is left, then with the next edge; it takes
+/// more where none is left on any.
 #[derive(Drop)]
 pub struct Turns<T: Drop> {
     taken: Queues<T>,
@@ -31,7 +31,11 @@ impl<T: Drop> Turns<T> {
     /// No message of so many edges, before the first turn. Errors: memory only. Cost: linear in the
     /// edges.
     pub fn new(alloc: Global, edges: usize) -> Result<Turns<T>, AllocError>
-        ensures { IfOk result (λ t. t ≡ record { waiting = replicate edges []; edge = 0; turn = 0 }) }
+        ensures { IfOk result (λ t. t ≡ record {
+          waiting = replicate edges [];
+          edge = 0;
+          turn = 0;
+        }) }
     {
         Ok(Turns {
             taken: Queues::new(alloc, edges)?,
@@ -40,16 +44,17 @@ impl<T: Drop> Turns<T> {
         })
     }
 
-    /// How many turns have begun, which is the number of the next one. It stays at the greatest number.
+    /// How many turns have begun, which is the number of the next one. It stays at the greatest
+    /// number.
     pub fn turn(&self) -> u64
         ensures { result ≡ self.now.turn }
     {
         self.turn
     }
 
-    /// The next message: the first of its edge. It waits until there is one; `None` once the inbox is
-    /// closed and no message is left. Takes no memory. Cost: constant, spread over many; one lock where
-    /// none was left.
+    /// The next message: the first of its edge. It waits until there is one; `None` once the inbox
+    /// is closed and no message is left. Takes no memory. Cost: constant, spread over many; one
+    /// lock where none was left.
     pub fn next<R: Wait>(&mut self, rt: &R, inbox: &Inbox<T>) -> Option<T>
         requires edges { length self.old.waiting ≡ inbox.now }
         ensures next { IfSome result (λ m. IsNext self.old.waiting m self.new.waiting) }

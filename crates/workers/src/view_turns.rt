@@ -22,10 +22,10 @@ use view_domain::view_domain::ViewDomain;
 /// A view shard takes one message from its inbox into a clear outbox, and its shown copy is made to
 /// show what it then holds.
 ///
-/// With `Ok` the message was for it, and all is as `take_view` says. Errors: `Gap` just where a packet
-/// was not for it or does not start at the line that is held of its stage shard, and the domain has
-/// then stopped, with all else as it was; else as `take_view`. After an error the copy shows what it
-/// showed, and what is in the outbox is not to be sent. Cost: that of `take_view`.
+/// With `Ok` the message was for it, and all is as `take_view` says. Errors: `Gap` just where a
+/// packet was not for it or does not start at the line that is held of its stage shard, and the
+/// domain has then stopped, with all else as it was; else as `take_view`. After an error the copy
+/// shows what it showed, and what is in the outbox is not to be sent. Cost: that of `take_view`.
 pub fn take_from_inbox<J: Naming, R: Wait + Drop>(
     alloc: Global,
     plan: &Plan,
@@ -105,8 +105,8 @@ fn is_from<J: Naming>(
 // A view shard takes one message into a clear outbox, and its shown copy is made to show what it
 // then holds.
 //
-// With `Ok` the domain did the step of the protocol, its requests and its acknowledgement are in the
-// outbox, and the copy shows just the keys that it holds filled, with their rows, over its cut.
+// With `Ok` the domain did the step of the protocol, its requests and its acknowledgement are in
+// the outbox, and the copy shows just the keys that it holds filled, with their rows, over its cut.
 // Errors: `Gap` just where a packet does not start at the line that is held of its stage shard, and
 // the domain has then stopped, with all else as it was; `NoMemory`, also where the copy was refused
 // memory, and then the domain does not run; `Stopped` where it did not run, and nothing changes.

@@ -34,9 +34,9 @@ use view_domain::message::ToView;
 use view_domain::outbox::ViewOutbox;
 use view_domain::view_domain::ViewDomain;
 
-/// Takes one message after the other, shows what it makes of each, and sends what it makes, until the
-/// inbox is closed and empty. What comes to a view shard that has stopped is lost. Where memory is
-/// refused for its domain, it stops before its first turn. What was shown stays shown.
+/// Takes one message after the other, shows what it makes of each, and sends what it makes, until
+/// the inbox is closed and empty. What comes to a view shard that has stopped is lost. Where memory
+/// is refused for its domain, it stops before its first turn. What was shown stays shown.
 pub fn view_work<J: Naming, R: Wait + Drop, G: Gate>(
     rt: &R,
     alloc: Global,
@@ -133,9 +133,9 @@ fn message_of<J: Naming>(mail: ViewMail<J>, waits: &mut Waits) -> ToView<Front<J
     }
 }
 
-// Takes one message, where the domain runs: its change is shown, its requests are sent, and then the
-// fence is acknowledged whose marker has come. Where the message or a request is refused the domain
-// stops.
+// Takes one message, where the domain runs: its change is shown, its requests are sent, and then
+// the fence is acknowledged whose marker has come. Where the message or a request is refused the
+// domain stops.
 fn turn<J: Naming, R: Wait + Drop>(
     rt: &R,
     alloc: Global,
@@ -197,7 +197,8 @@ fn send<J: Naming, R: Wait>(
     sent
 }
 
-// Sends requests to one stage shard, in order. Errors: a request was refused; none is sent after it.
+// Sends requests to one stage shard, in order. Errors: a request was refused; none is sent after
+// it.
 fn send_to<J: Naming, R: Wait>(
     rt: &R,
     routes: &Routes<J>,

@@ -18,8 +18,8 @@ pub struct Waiting {
     number: u64,
 }
 
-/// For each session the key that it waits for, if it does. All places are made at the start, so that
-/// a wait takes no memory.
+/// For each session the key that it waits for, if it does. All places are made at the start, so
+/// that a wait takes no memory.
 #[derive(Drop)]
 pub struct Waits {
     places: Vec<Option<Waiting>>,
@@ -59,9 +59,9 @@ impl Waits {
         }
     }
 
-    /// Rings the bell of each session whose key is filled, with the number of its wait, and it waits no
-    /// longer; every other session waits on. It takes no memory. Cost: a look-up for each session that
-    /// waits.
+    /// Rings the bell of each session whose key is filled, with the number of its wait, and it
+    /// waits no longer; every other session waits on. It takes no memory. Cost: a look-up for each
+    /// session that waits.
     pub fn ring<J: Naming, R: Wait>(
         &mut self,
         rt: &R,

@@ -95,7 +95,11 @@ impl<'p, F: Fronts> Model for NotesBase<'p, F> {
 impl<'p, F: Fronts> NotesBase<'p, F> {
     fn new(alloc: Global, plan: &'p Plan, right: F::Right) -> Result<NotesBase<'p, F>, AllocError>
         requires plan { plan.now ≡ notes_plan }
-        requires log { F.log (F.front right) ≡ record { plan = notes_plan; base = 0; entries = [] } }
+        requires log { F.log (F.front right) ≡ record {
+          plan = notes_plan;
+          base = 0;
+          entries = [];
+        } }
         requires authors { F.authors (F.front right) ≡ [] }
     {
         let domain = BaseDomain::new(alloc, plan, 0, right, 2)?;

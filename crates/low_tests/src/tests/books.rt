@@ -122,8 +122,8 @@ fn catches_up<J: Naming>(book: &Book<J>, mut front: Front<J>) -> bool {
     before == 0 && there == 1 && front.len() == 1
 }
 
-/// Whether the word of a session takes a fence, or else a read of key 7, over the empty front of the
-/// only source.
+/// Whether the word of a session takes a fence, or else a read of key 7, over the empty front of
+/// the only source.
 fn adds<J: Naming>(
     alloc: Global,
     plan: &Plan,

@@ -24,8 +24,8 @@ pub fn note(alloc: Global, author: u8) -> Result<Row, AllocError>
     Ok(Row::new(cells))
 }
 
-// Whether the right, to the empty log of the only base shard, takes a note; then its front has it, and
-// one from before has not, but sees so many.
+// Whether the right, to the empty log of the only base shard, takes a note; then its front has it,
+// and one from before has not, but sees so many.
 pub fn takes_one<F: Fronts>(
     alloc: Global,
     words: &F::Words,
