@@ -1,7 +1,7 @@
 -- The numbers and names of the refusals.
 use Rattle.std.specs.Prelude.{ℕ, List, codes}
 use Rattle.row.specs.declared.refused.Refused.{Refused}
-use Rattle.row.specs.declared.refused.Refused.TheVariants.{NoMemory, UnknownTable, BadRow, Duplicate, Absent, LogFull, UnknownView, BadKey, Busy, Stopped, Stolen, NoSessionLeft, Behind, Gap, UnknownPlace, BadScript, CannotRead, CannotWrite, NotYet}
+use Rattle.row.specs.declared.refused.Refused.TheVariants.{NoMemory, UnknownTable, BadRow, Duplicate, Absent, LogFull, UnknownView, BadKey, Busy, Stopped, Stolen, NoSessionLeft, Behind, Gap, UnknownPlace, BadScript, CannotRead, CannotWrite}
 
 -- the number that users see
 abbrev pub number_of : Refused → ℕ
@@ -23,7 +23,6 @@ number_of UnknownPlace = 15
 number_of BadScript = 30
 number_of CannotRead = 31
 number_of CannotWrite = 32
-number_of NotYet = 33
 
 -- the name that users see
 abbrev pub name_of : Refused → List ℕ
@@ -45,4 +44,3 @@ name_of UnknownPlace = codes "UnknownPlace"
 name_of BadScript = codes "BadScript"
 name_of CannotRead = codes "CannotRead"
 name_of CannotWrite = codes "CannotWrite"
-name_of NotYet = codes "NotYet"

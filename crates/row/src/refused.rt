@@ -45,8 +45,6 @@ pub enum Refused {
     CannotRead,
     #[error("the output cannot be written")]
     CannotWrite,
-    #[error("the plan cannot be served yet")]
-    NotYet,
 }
 
 impl Refused {
@@ -73,7 +71,6 @@ impl Refused {
             Refused::BadScript => 30,
             Refused::CannotRead => 31,
             Refused::CannotWrite => 32,
-            Refused::NotYet => 33,
         }
     }
 
@@ -100,7 +97,6 @@ impl Refused {
             Refused::BadScript => "BadScript",
             Refused::CannotRead => "CannotRead",
             Refused::CannotWrite => "CannotWrite",
-            Refused::NotYet => "NotYet",
         }
     }
 }
