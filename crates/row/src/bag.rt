@@ -47,6 +47,14 @@ impl Bag {
         &self.rows
     }
 
+    /// The rows in order, which are no bag any more. Constant time.
+    pub fn into_rows(self) -> Vec<Row>
+        ensures { result.items ≡ self }
+    {
+        let Bag { rows } = self;
+        rows
+    }
+
     /// How many rows there are, a repeat counted each time. Constant time.
     pub fn len(&self) -> usize
         ensures { result ≡ length self.now }

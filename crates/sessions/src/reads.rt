@@ -25,7 +25,7 @@ use row::value::{Value, shard_of};
 use schedule::arguments::read_target;
 use schedule::readers::place_of;
 use shown::reader::Look;
-use std::alloc::{AllocError, Global};
+use std::alloc::Global;
 use std::sync::Wait;
 
 /// The rows of a key in order, and the cut over which they are the query's.
@@ -56,7 +56,7 @@ impl<J: Naming> Session<J> {
     /// or its word was found moved before, `UnknownView`, `BadKey` where the key is no cell of the
     /// key column; then `NoMemory`, or `Stolen` where its word was moved by another. A refused read
     /// leaves the floors and what was accepted, and but for `Stolen` what was seen. Cost: a look at
-    /// each view's name, one look-up and two copies of the rows and of the cut.
+    /// each view's name, one look-up, a copy of the rows and two of the cut.
     pub fn try_read(&mut self, alloc: Global, view: &str, key: &Value) -> Result<Found, Refused>
         ensures legal { IsLegal J.plan J.sessions self.new.seen }
         ensures why { IfSome (asked_refusal J.plan self.old view.now (datum_of key.now))
@@ -106,7 +106,7 @@ impl<J: Naming> Session<J> {
         };
         match found {
             Look::Miss => Ok(Found::Miss),
-            Look::Hit(rows, cut) => match self.answer(alloc, view, key, &rows, cut) {
+            Look::Hit(rows, cut) => match self.answer(alloc, view, key, rows, cut) {
                 Ok(answer) => Ok(Found::Hit(answer)),
                 Err(refused) => Err(refused),
             },
@@ -133,17 +133,17 @@ impl<J: Naming> Session<J> {
         alloc: Global,
         view: usize,
         key: &Value,
-        rows: &Bag,
+        rows: Bag,
         cut: Cut<J>,
     ) -> Result<Answer, Refused>
         requires view { view < length J.plan.views }
         requires number { self.old.number < last_number }
-        requires found { Finds J.plan self.old.shown view (datum_of key.now) rows.now cut }
+        requires found { Finds J.plan self.old.shown view (datum_of key.now) rows cut }
         ensures read { IfOk result (λ a.
             IsRead J.plan self.old self.new view (datum_of key.now) a.rows.items a.cut) }
         ensures refused { IfErr result (λ e. IsUnread self.old self.new e) }
     {
-        let rows = rows_of(alloc, rows)?;
+        let rows = rows.into_rows();
         let lengths = cut.lengths().try_clone(alloc)?;
         let shard = key_shard(self.plan(), view, key);
         self.number += 1;
@@ -304,15 +304,4 @@ pub(crate) fn key_place<J: Naming>(routes: &Routes<J>, view: usize, key: &Value)
         Some(place) => place,
         None => unreachable!(),
     }
-}
-
-// The rows of a bag, in order.
-fn rows_of(alloc: Global, bag: &Bag) -> Result<Vec<Row>, AllocError>
-    ensures { IfOk result (λ v. v.items ≡ bag.now) }
-{
-    let mut rows = Vec::new(alloc);
-    for row in bag.rows() {
-        rows.push(row.try_clone(alloc)?)?;
-    }
-    Ok(rows)
 }

@@ -21,21 +21,16 @@ answer-answered-requires-clause-floor g c =
     let shard : c.key_shard-shard.result ≡ view_shard p c.args.view (datum_of c.args.key.now) = rw c.plan.ensures at c.key_shard-shard.ensures.shard in
     rw (ap (λ (x : SessionView). x.floors) c.learn.ensures.stays, shard, found.cut) (floor_below p _ c.args.view (view_shard p c.args.view (datum_of c.args.key.now)) found.sight c.self.invariant.2 found.is)
 
-pub returns-in_err-rows-clause-refused : goal.returns-in_err-rows-clause-refused
-returns-in_err-rows-clause-refused g c =
-    let only : IfErr c.from_residual.result (λ e. e ≡ NoMemory) = search rules in
-    err_to (λ e. e ≡ NoMemory) _ c.from_residual.result (λ e h. unread _ e h) only
-
 pub returns-in_err-lengths-clause-refused : goal.returns-in_err-lengths-clause-refused
 returns-in_err-lengths-clause-refused g c =
-    let only : IfErr c.from_residual-in_err-lengths.result (λ e. e ≡ NoMemory) = search rules in
-    err_to (λ e. e ≡ NoMemory) _ c.from_residual-in_err-lengths.result (λ e h. unread _ e h) only
+    let only : IfErr c.from_residual.result (λ e. e ≡ NoMemory) = search rules in
+    err_to (λ e. e ≡ NoMemory) _ c.from_residual.result (λ e h. unread _ e h) only
 
 pub answer-answered-requires-clause-rows : goal.answer-answered-requires-clause-rows
 answer-answered-requires-clause-rows g c =
     let p = g.J.Naming.plan in
     let found = rw (← c.self.view_is) at c.requires.found in
-    c.in_ok-rows.ensures ∙ (found.answers ∙ ap (λ fs. answer p fs c.args.view (datum_of c.args.key.now)) (sym found.fronts))
+    c.into_rows-rows.ensures ∙ (found.answers ∙ ap (λ fs. answer p fs c.args.view (datum_of c.args.key.now)) (sym found.fronts))
 
 pub invariant_of-self : goal.invariant_of-self
 invariant_of-self g c =
@@ -70,13 +65,13 @@ returns-in-Ok-clause-read g c =
     let h = c.answer-answered.new.self.seen in
     let session = (ap (λ (x : SessionView). x.session) told.stays) ∙ (ap (λ (x : SessionView). x.session) c.learn.ensures.stays) in
     let lengths = c.in_ok-lengths.ensures ∙ c.lengths.ensures.lengths in
-    let same = c.in_ok-rows.ensures in
+    let same = c.into_rows-rows.ensures in
     let set = (ap (λ (x : SessionView). x.floors) told.stays) ∙ (ap (λ (f : Floors). with_floor f c.args.view c.key_shard-shard.result c.args.cut.lengths) (ap (λ (x : SessionView). x.floors) c.learn.ensures.stays) ∙ ap (λ (n : ℕ). with_floor c.self.inside.word.floors c.args.view n c.args.cut.lengths) shard) in
     let item = rw ((ap (λ (x : SessionView). x.session) c.learn.ensures.stays)) at told.item in
     let answered = (ap (λ (x : SessionView). x.answered) told.stays) ∙ ap (λ n. n + 1) (ap (λ (x : SessionView). x.answered) c.learn.ensures.stays) in
     let once = rw ((ap (λ (x : SessionView). x.session) c.learn.ensures.stays), (ap (λ (x : SessionView). x.answered) c.learn.ensures.stays)) at told.counted in
-    let shows : Shows p _ c.args.view k c.in_ok-rows.rows.items c.args.cut.lengths = record { sight = found.sight; is = found.is; rows = found.rows ∙ ap Some (sym same); answers = same ∙ found.answers; cut = found.cut } in
-    rw (← c.self.view_is, c.part.ensures.part, session, answered, lengths) (read_done p _ c.args.view k c.in_ok-rows.rows.items c.args.cut.lengths c.learn.new.self.seen h c.answer-answered.new.self.floors c.self.invariant.2 c.learn.ensures.others once item shows set)
+    let shows : Shows p _ c.args.view k c.into_rows-rows.result.items c.args.cut.lengths = record { sight = found.sight; is = found.is; rows = found.rows ∙ ap Some (sym same); answers = same ∙ found.answers; cut = found.cut } in
+    rw (← c.self.view_is, c.part.ensures.part, session, answered, lengths) (read_done p _ c.args.view k c.into_rows-rows.result.items c.args.cut.lengths c.learn.new.self.seen h c.answer-answered.new.self.floors c.self.invariant.2 c.learn.ensures.others once item shows set)
 
 pub returns-in-Err-clause-refused : goal.returns-in-Err-clause-refused
 returns-in-Err-clause-refused g c =

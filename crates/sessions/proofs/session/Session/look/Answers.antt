@@ -7,5 +7,5 @@ answer-requires-clause-found g c = rw c.in-Hit.is at c.in-Ok.ensures.hit
 pub returns-in-Ok-answer-clause-hit : goal.returns-in-Ok-answer-clause-hit
 returns-in-Ok-answer-clause-hit g c = looked_read g.J.Naming.plan _ _ _ c.find.ensures.looked _ _ _ _ c.in-Ok-answer.ensures.read
 
-pub returns-clause-refused : goal.returns-clause-refused
-returns-clause-refused g c = looked_unread g.J.Naming.plan _ _ _ c.find.ensures.looked _ c.in-Err-answer.ensures.refused
+pub returns-in-Err-answer-clause-refused : goal.returns-in-Err-answer-clause-refused
+returns-in-Err-answer-clause-refused g c = looked_unread g.J.Naming.plan _ _ _ c.find.ensures.looked _ c.in-Err-answer.ensures.refused
