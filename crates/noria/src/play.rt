@@ -32,7 +32,7 @@ pub enum Play {
 
 /// Starts the plan, plays, and writes the answers. `NoSessionLeft` where more than fifteen scripts
 /// race, and nothing is started. All threads that it starts have ended.
-pub fn play<R: Threads + Wait + Copy + Drop + Send + 'static, O: Write>(
+pub fn start<R: Threads + Wait + Copy + Drop + Send + 'static, O: Write>(
     rt: R,
     alloc: Global,
     plan: Plan,
