@@ -1,5 +1,5 @@
 //! A bag of rows: a row counts as often as it was added and not taken away.
-ghost use Rattle.std.specs.Prelude.{◌≡◌, ◌==◌, ◌<◌, ◌≤◌, List, [], length, true, false, ◌↔◌, IsTrue, OnOk, OnErr};
+ghost use Rattle.std.specs.Prelude.{◌≡◌, ◌==◌, ◌<◌, ◌≤◌, List, [], length, true, false, ◌↔◌, IsTrue, IfOk, OnOk, OnErr};
 ghost use Rattle.std.specs.Ordering.{is_gt};
 ghost use Rattle.std.specs.List.Sorted.{IsPartitionPoint};
 ghost use Rattle.row.specs.Cells.{row_cmp};
@@ -53,6 +53,14 @@ impl Bag {
     {
         let Bag { rows } = self;
         rows
+    }
+
+    /// The same rows in memory of their own. Errors: memory only. Cost: a copy of each row.
+    pub fn try_clone(&self, alloc: Global) -> Result<Bag, AllocError>
+        ensures { IfOk result (λ b. b ≡ self.now) }
+    {
+        let rows = copies(alloc, self.rows())?;
+        Ok(Bag { rows })
     }
 
     /// How many rows there are, a repeat counted each time. Constant time.
@@ -191,4 +199,15 @@ fn place(rows: &[Row], row: &Row) -> usize
         (λ y. is_gt (row_cmp row.now y) ≡ false) rows.now result }
 {
     rows.partition_point(|other| row.cmp(other).is_gt())
+}
+
+/// Copies of the rows, in memory that is taken once for all of them but for their values.
+fn copies(alloc: Global, rows: &[Row]) -> Result<Vec<Row>, AllocError>
+    ensures { IfOk result (λ v. v.items ≡ rows.now) }
+{
+    let mut all = Vec::with_capacity(alloc, rows.len())?;
+    for row in rows {
+        all.push(row.try_clone(alloc)?)?;
+    }
+    Ok(all)
 }

@@ -18,7 +18,6 @@ use row::refused::Refused;
 use row::value::Value;
 use std::alloc::{AllocError, Global};
 use std::marker::Model;
-use view_domain::bags;
 
 /// A reader of a shown copy, seen as what it has seen last.
 #[derive(Drop)]
@@ -222,5 +221,5 @@ fn found<J: Naming>(alloc: Global, shown: &Shown<J>, key: &Value) -> Result<Look
     let Some(rows) = shown.entry(key) else {
         return Ok(Look::Miss);
     };
-    Ok(Look::Hit(bags::try_clone(alloc, rows)?, shown.cut().try_clone(alloc)?))
+    Ok(Look::Hit(rows.try_clone(alloc)?, shown.cut().try_clone(alloc)?))
 }

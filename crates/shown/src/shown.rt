@@ -18,7 +18,6 @@ use row::bag::Bag;
 use row::value::Value;
 use std::alloc::{AllocError, Global};
 use std::marker::Model;
-use view_domain::bags;
 use view_domain::shown::KeyChange;
 
 /// The filled keys of one shard of a view with their rows, over one cut.
@@ -101,7 +100,7 @@ impl<J: Naming> Shown<J> {
     {
         match change {
             KeyChange::Fills { key, rows } => {
-                let rows = bags::try_clone(self.alloc, rows)?;
+                let rows = rows.try_clone(self.alloc)?;
                 let key = key.try_clone(self.alloc)?;
                 self.rows.put(key, rows)
             }

@@ -18,10 +18,3 @@ sorted_same rows up = one_list row_cmp row_total row_same (sorted row_cmp rows) 
 
 pub sorted_twice : (rows : List Cells) → sorted row_cmp (sorted row_cmp rows) ≡ sorted row_cmp rows
 sorted_twice rows = sorted_same (sorted row_cmp rows) (IsAscending-sorted row_cmp row_total rows)
-
-pub copied_more : (rows : List Cells) (i : ℕ) (row copy : Cells) (all new : List Cells) → i < length rows → row ≡ get_or rows i row → copy ≡ row → new ≡ inserted row_cmp copy all → all ≡ sorted row_cmp (take i rows)
-    → new ≡ sorted row_cmp (take (i + 1) rows)
-copied_more rows i row copy all new small is c n a = rw (take_more rows i row small, ← is, n, c, a) (sorted_more (take i rows) row)
-
-pub copied_all : (rows same_rows all : List Cells) (i : ℕ) → length rows ≤ i → rows ≡ same_rows → IsAscending row_cmp same_rows → all ≡ sorted row_cmp (take i rows) → all ≡ same_rows
-copied_all rows same_rows all i done e up a = a ∙ (ap (sorted row_cmp) (take_all i rows done) ∙ (ap (sorted row_cmp) e ∙ sorted_same same_rows up))

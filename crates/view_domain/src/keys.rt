@@ -15,7 +15,6 @@ ghost use Rattle.view_domain.specs.Groups.{names_of, records_at};
 ghost use Rattle.view_domain.specs.Shown.{rows_at, LeadsTo, gone_by, asked_by};
 ghost use Rattle.view_domain.specs.Taken.{evicted_all, changed_by};
 
-use crate::bags;
 use crate::groups::{Group, Groups};
 use crate::shown::KeyChange;
 use partial::partial::{Evicted, Partial};
@@ -173,7 +172,7 @@ fn tell_filled(
         → OnOk result (LeadsTo first told.new.items kept.now) }
 {
     let rows = match kept.get(&key) {
-        Some(bag) if filled => bags::try_clone(alloc, bag)?,
+        Some(bag) if filled => bag.try_clone(alloc)?,
         _ => return Ok(()),
     };
     told.push(KeyChange::Fills { key, rows })?;

@@ -2,7 +2,7 @@
 #![tactic(auto)]
 
 mod asks;
-pub mod bags;
+mod bags;
 pub mod groups;
 pub mod keys;
 pub mod message;
