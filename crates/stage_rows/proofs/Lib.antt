@@ -1,4 +1,5 @@
 pub mod Founds
+pub mod Exact
 pub mod Pieces
 pub mod Keeps
 pub mod Steps
