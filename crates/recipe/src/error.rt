@@ -6,7 +6,7 @@ ghost use Rattle.std.specs.Ordering.{nat_cmp, on, eq_by_cmp};
 ghost use Rattle.recipe.specs.Errors.{number_of, name_of};
 ghost use Rattle.recipe.specs.declared.error.PlanError.TheVariants.{NoMemory};
 
-use std::alloc::{AllocError, AllocFailed};
+use std::alloc::AllocError;
 use std::fmt;
 use thiserror::Error;
 
@@ -144,18 +144,10 @@ impl fmt::Display for Spot {
     }
 }
 
-impl From<AllocError> for PlanError {
+impl<E: Into<AllocError> + Drop> From<E> for PlanError {
     ghost from_gives = { λ _ e. e ≡ NoMemory };
 
-    fn from(_e: AllocError) -> PlanError {
-        PlanError::NoMemory
-    }
-}
-
-impl<T: Drop> From<AllocFailed<T>> for PlanError {
-    ghost from_gives = { λ _ e. e ≡ NoMemory };
-
-    fn from(_e: AllocFailed<T>) -> PlanError {
+    fn from(_e: E) -> PlanError {
         PlanError::NoMemory
     }
 }

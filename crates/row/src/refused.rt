@@ -3,7 +3,7 @@ ghost use Rattle.std.specs.Prelude.{◌≡◌};
 ghost use Rattle.row.specs.Refusals.{number_of, name_of};
 ghost use Rattle.row.specs.declared.refused.Refused.TheVariants.{NoMemory};
 
-use std::alloc::{AllocError, AllocFailed};
+use std::alloc::AllocError;
 use thiserror::Error;
 
 /// Why a call was refused. What a refusal leaves is said at the call that gives it.
@@ -101,18 +101,10 @@ impl Refused {
     }
 }
 
-impl From<AllocError> for Refused {
+impl<E: Into<AllocError> + Drop> From<E> for Refused {
     ghost from_gives = { λ _ e. e ≡ NoMemory };
 
-    fn from(_error: AllocError) -> Refused {
-        Refused::NoMemory
-    }
-}
-
-impl<T: Drop> From<AllocFailed<T>> for Refused {
-    ghost from_gives = { λ _ e. e ≡ NoMemory };
-
-    fn from(_error: AllocFailed<T>) -> Refused {
+    fn from(_error: E) -> Refused {
         Refused::NoMemory
     }
 }
