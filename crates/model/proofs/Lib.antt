@@ -11,7 +11,6 @@ pub mod Sources
 pub mod CutLaws
 pub mod Zeros
 pub mod SameLines
-pub mod Printing
 pub mod Samples
 pub mod MoreSamples
 pub mod LegalSamples

@@ -1,13 +1,8 @@
 -- Printed cuts.
-use Rattle.std.specs.Prelude.{ℕ, List, [], ◌∷◌, ◌++◌, map}
+use Rattle.std.specs.Prelude.{ℕ, List, map}
 use Rattle.std.specs.Fmt.{decimal}
+use Rattle.row.specs.Printed.{joined}
 use Rattle.model.specs.Histories.{Lengths}
-
--- the words with the byte between each two
-abbrev pub joined : ℕ → List (List ℕ) → List ℕ
-joined byte [] = []
-joined byte (word ∷ []) = word
-joined byte (word ∷ next ∷ words) = word ++ byte ∷ joined byte (next ∷ words)
 
 -- the lengths of a stage shard, with a comma between each two
 abbrev pub printed_line : List ℕ → List ℕ

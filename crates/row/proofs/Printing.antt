@@ -1,14 +1,17 @@
 -- What is written piece by piece is what is to be printed.
-use Rattle.std.proofs.Common.{◌/◌, inl, inr, ◌≡◌, ◌≢◌, ℕ, ◌+◌, ◌≤◌, ◌==◌, ◌||◌, not, Bool, true, false, cond, List, [], ◌∷◌, ◌++◌, length, map, flat_map, refl, ap, sym, ◌∙◌, arith, append_assoc, append-nil}
+use Rattle.std.proofs.Common.{◌/◌, inl, inr, ◌≡◌, ◌≢◌, ℕ, ◌+◌, ◌≤◌, ◌==◌, ◌||◌, not, Bool, true, false, cond, List, [], ◌∷◌, ◌++◌, length, take, map, flat_map, refl, ap, sym, ◌∙◌, arith, append_assoc, append-nil}
 use Rattle.std.specs.List.{list_all}
+use Rattle.std.specs.Fmt.{HasWritten}
+use Rattle.std.specs.declared.fmt.Formatter.{Formatter}
+use Rattle.std.proofs.Output.{has_written_append, has_written_of_eq}
+use Rattle.std.proofs.lemmas.List.{take_all}
 use Rattle.std.proofs.lemmas.List.Concat.{flat_map-cons}
 use Rattle.std.proofs.lemmas.Str.{encode_ascii}
 use Rattle.std.proofs.lemmas.Grind.{common_steps}
 use Rattle.std.proofs.lemmas.Bool.{cases_lt}
 use lib.Utf8.{encode, next}
 use lib.Dec.{ltb}
-use Rattle.row.specs.Cells.{Datum}
-use Rattle.row.specs.Printed.{is_escaped, escaped, is_bare, printed, printed_row}
+use Rattle.row.specs.Printed.{is_escaped, escaped, is_bare, joined}
 
 pub is_bare_some : (bs : List ℕ) → length bs ≢ 0 → is_bare bs ≡ list_all (λ c. not (c == 32 || is_escaped c)) bs
 is_bare_some [] some = absurd (some refl)
@@ -65,8 +68,14 @@ pub escaped_done : (done rest bytes : List ℕ) → length rest ≡ 0 → done +
 escaped_done done [] bytes none h = sym (append-nil done) ∙ h
 escaped_done done (x ∷ rest) bytes none h = absurd (omega arith)
 
--- a row is its first value, and each other after a space
-pub printed_row_by_words : {X : Type 0} (f : X → Datum) (x : X) (xs : List X) → printed (f x) ++ flat_map (λ y. 32 ∷ printed (f y)) xs ≡ printed_row (map f (x ∷ xs))
-printed_row_by_words f x [] = append-nil (printed (f x))
-printed_row_by_words f x (y ∷ ys) =
-    rw (flat_map-cons (λ y. 32 ∷ printed (f y)) y ys) (ap (λ t. printed (f x) ++ 32 ∷ t) (printed_row_by_words f y ys))
+-- the words are the first, and each other after the byte
+joined_by_words : {X : Type 0} (byte : ℕ) (f : X → List ℕ) (x : X) (xs : List X) → f x ++ flat_map (λ y. byte ∷ f y) xs ≡ joined byte (map f (x ∷ xs))
+joined_by_words byte f x [] = append-nil (f x)
+joined_by_words byte f x (y ∷ ys) =
+    rw (flat_map-cons (λ y. byte ∷ f y) y ys) (ap (λ t. f x ++ byte ∷ t) (joined_by_words byte f y ys))
+
+-- after a loop that wrote the byte and the word of each x but the first, whose word stood before it
+pub joined_written : {W X : Type 0} {took : W → List ℕ → W → Type 0} {start next end : Formatter W} (byte : ℕ) (f : X → List ℕ) (x : X) (xs : List X) (i : ℕ) (words : List (List ℕ)) → map f (x ∷ xs) ≡ words → length xs ≤ i → HasWritten took start (f x) next
+    → HasWritten took next (flat_map (λ y. byte ∷ f y) (take i xs)) end → HasWritten took start (joined byte words) end
+joined_written byte f x xs i words whole done first rest =
+    has_written_of_eq _ _ _ _ _ (joined_by_words byte f x xs ∙ ap (joined byte) whole) (has_written_append _ _ _ _ _ _ first (rw (take_all i xs done) at rest))

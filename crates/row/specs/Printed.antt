@@ -27,12 +27,12 @@ abbrev pub printed : Datum → List ℕ
 printed (int n) = signed_decimal n
 printed (text bytes) = if is_bare bytes then bytes else quoted bytes
 
--- the words with one space between each two
-abbrev pub spaced : List (List ℕ) → List ℕ
-spaced [] = []
-spaced (w ∷ []) = w
-spaced (w ∷ x ∷ ws) = w ++ 32 ∷ spaced (x ∷ ws)
+-- the words with the byte between each two
+abbrev pub joined : ℕ → List (List ℕ) → List ℕ
+joined byte [] = []
+joined byte (word ∷ []) = word
+joined byte (word ∷ next ∷ words) = word ++ byte ∷ joined byte (next ∷ words)
 
--- a row by its values
+-- a row by its values, with one space between each two
 abbrev pub printed_row : Cells → List ℕ
-printed_row row = spaced (map printed row)
+printed_row row = joined 32 (map printed row)

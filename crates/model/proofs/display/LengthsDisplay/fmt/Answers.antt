@@ -1,15 +1,13 @@
-use Rattle.std.proofs.Common.{rules, arith, ◌≡◌, ◌∷◌, take, map, sym, ap, ◌∙◌}
+use Rattle.std.proofs.Common.{rules, arith, ◌≡◌, ◌∷◌, map, sym, ap, ◌∙◌, ℕ, Vec, Global}
 use Rattle.std.proofs.lemmas.Grind.{common_steps}
-use Rattle.std.proofs.Output.{has_written_append, has_written_of_eq}
-use Rattle.model.specs.Printed.{printed_cut}
-use Rattle.model.proofs.Printing.{printed_cut_by_lines}
+use Rattle.std.proofs.lemmas.Simd.{map-map}
+use Rattle.row.proofs.Printing.{joined_written}
+use Rattle.model.specs.Printed.{printed_line}
 use Rattle.model.proofs.display.LengthsDisplay.fmt.Goals as goal
 
 pub returns-clause-writes : goal.returns-clause-writes
 returns-clause-writes g c = λ plain _.
-    let one = rw c.as_slice-2.ensures.value at (c.in_ok-write_line.ensures plain (search rules)) in
-    let all : take c.loop-line.line-index c.in-Some.others.now ≡ c.in-Some.others.now = grind (arith, common_steps) in
+    let first = rw c.as_slice-2.ensures.value at (c.in_ok-write_line.ensures plain (search rules)) in
     let split : c.self.inside.lines.items ≡ c.in-Some.first.now ∷ c.in-Some.others.now = grind (arith, common_steps) in
-    let rest = rw all at (c.loop-line.invariant one.plain) in
-    let whole = printed_cut_by_lines (λ v. v.items) c.in-Some.first.now c.in-Some.others.now ∙ (ap (λ xs. printed_cut (map (λ v. v.items) xs)) (sym split) ∙ ap printed_cut c.self.view_is) in
-    has_written_of_eq _ _ _ _ _ whole (has_written_append _ _ _ _ _ _ one rest)
+    let words : map (λ v. printed_line v.items) (c.in-Some.first.now ∷ c.in-Some.others.now) ≡ map printed_line (map (λ v. v.items) c.self.inside.lines.items) = rw split (sym (map-map printed_line (λ (v : Vec ℕ Global). v.items) (c.in-Some.first.now ∷ c.in-Some.others.now))) in
+    joined_written 47 (λ v. printed_line v.items) c.in-Some.first.now c.in-Some.others.now c.loop-line.line-index _ (words ∙ ap (map printed_line) c.self.view_is) (omega arith) first (c.loop-line.invariant first.plain)
