@@ -12,7 +12,7 @@ use Rattle.row.specs.Bags.{Each}
 use Rattle.plan.specs.Layouts.{TableLayout, SideLayout, ViewLayout, Layout, table_at, view_at, no_table, no_view}
 use Rattle.plan.specs.Profile.{is_letter, is_name_byte, is_name, is_new, are_apart, view_names}
 use Rattle.plan.specs.Facts.{IfThere, IsOwnName, IsTable, IsSide, IsView, Facts}
-use Rattle.plan.specs.Domains.{bases_of, right_bases, sources, stage_shards, shards_of_view, view_shards, edges_from, pairs, edges, numbered, domain_text, edge_text, shards_of_table, base_shards, domains, named_among, domain_named, edge_among, edge_named, IsDomainWith, IsEdgeWith}
+use Rattle.plan.specs.Domains.{bases_of, right_bases, sources, stage_shards, shards_of_view, view_shards, edges_from, pairs, edges, numbered, domain_text, edge_text, shards_of_table, base_shards, domains, first_with, domain_named, edge_named, IsDomainWith, IsEdgeWith}
 use Rattle.plan.specs.declared.domain.DomainId.{DomainId}
 use Rattle.plan.specs.declared.domain.DomainId.TheVariants as domain
 use Rattle.plan.specs.declared.domain.Edge.{Edge}
@@ -265,18 +265,6 @@ one_edge_text p h x y hx hy e =
     both_ends x.from x.to y.from y.to froms tos
 
 -- ---- the first of a list with a text, where no two have one
-abbrev first_with : {X : Type 0} → (X → List ℕ) → List ℕ → List X → Option X
-first_with of bs [] = None
-first_with of bs (x ∷ xs) = cond (bytes_eq (of x) bs) (Some x) (first_with of bs xs)
-
-named_first : (p : Layout) (bs : List ℕ) (xs : List DomainId) → named_among p bs xs ≡ first_with (domain_text p) bs xs
-named_first p bs [] = refl
-named_first p bs (x ∷ xs) = ap (cond (bytes_eq (domain_text p x) bs) (Some x)) (named_first p bs xs)
-
-edge_first : (p : Layout) (bs : List ℕ) (xs : List Edge) → edge_among p bs xs ≡ first_with (edge_text p) bs xs
-edge_first p bs [] = refl
-edge_first p bs (x ∷ xs) = ap (cond (bytes_eq (edge_text p x) bs) (Some x)) (edge_first p bs xs)
-
 -- what is found stands there, with the text
 abbrev IsThere : {X : Type 0} → (X → List ℕ) → List ℕ → List X → X → Type 0
 IsThere of bs xs x = (k : ℕ) × (k < length xs) × (slice_index_or xs k x ≡ x) × (of x ≡ bs)
@@ -303,20 +291,20 @@ there_found {X} of bs P single (y ∷ ys) x k lt is hx all e = step (bytes_eq (o
     step false same rest = let r = later k lt is same in rest r.0 r.1 r.2
 
 -- ---- the laws
-named_law : {X : Type 0} (of : X → List ℕ) (bs : List ℕ) (P : X → Type 0) → ((x y : X) → P x → P y → of x ≡ of y → x ≡ y) → (xs : List X) → Each P xs → (named : Option X) → named ≡ first_with of bs xs → (x : X) → (named ≡ Some x) ↔ (Contains xs x × (of x ≡ bs))
-named_law {X} of bs P single xs all named first x = (there, found)
+named_law : {X : Type 0} (of : X → List ℕ) (bs : List ℕ) (P : X → Type 0) → ((x y : X) → P x → P y → of x ≡ of y → x ≡ y) → (xs : List X) → Each P xs → (x : X) → (first_with of bs xs ≡ Some x) ↔ (Contains xs x × (of x ≡ bs))
+named_law {X} of bs P single xs all x = (there, found)
   where
-    there : named ≡ Some x → Contains xs x × (of x ≡ bs)
-    there e = let r = found_there of bs xs x (sym first ∙ e) in ((r.0, r.1, r.2), r.3)
+    there : first_with of bs xs ≡ Some x → Contains xs x × (of x ≡ bs)
+    there e = let r = found_there of bs xs x e in ((r.0, r.1, r.2), r.3)
 
-    found : Contains xs x × (of x ≡ bs) → named ≡ Some x
-    found r = first ∙ there_found of bs P single xs x r.0.0 r.0.1 r.0.2 (each_there P xs x r.0.0 r.0.1 r.0.2 all) all r.1
+    found : Contains xs x × (of x ≡ bs) → first_with of bs xs ≡ Some x
+    found r = there_found of bs P single xs x r.0.0 r.0.1 r.0.2 (each_there P xs x r.0.0 r.0.1 r.0.2 all) all r.1
 
 pub domain_law : (p : Layout) → Facts p → (bs : List ℕ) (x : DomainId) → (domain_named p bs ≡ Some x) ↔ (Contains (domains p) x × (domain_text p x ≡ bs))
-domain_law p h bs = named_law (domain_text p) bs (HasDomain p) (one_text p h) (domains p) (all_domains p) (domain_named p bs) (named_first p bs (domains p))
+domain_law p h bs = named_law (domain_text p) bs (HasDomain p) (one_text p h) (domains p) (all_domains p)
 
 pub edge_law : (p : Layout) → Facts p → (bs : List ℕ) (x : Edge) → (edge_named p bs ≡ Some x) ↔ (Contains (edges p) x × (edge_text p x ≡ bs))
-edge_law p h bs = named_law (edge_text p) bs (HasEnds p) (one_edge_text p h) (edges p) (all_edges p h) (edge_named p bs) (edge_first p bs (edges p))
+edge_law p h bs = named_law (edge_text p) bs (HasEnds p) (one_edge_text p h) (edges p) (all_edges p h)
 
 -- of an answer that may be want of memory
 pub domain_answer : (p : Layout) → Facts p → (bs : List ℕ) (r : Result (Option DomainId) AllocError) → IfOk r (λ d. d ≡ domain_named p bs) → IfOk r (IsDomainWith p bs)

@@ -87,19 +87,15 @@ abbrev pub domains : Layout → List DomainId
 domains p = base_shards p ++ stage_shards p ++ view_shards p
 
 -- the first of them that has the text
-abbrev pub named_among : Layout → List ℕ → List DomainId → Option DomainId
-named_among p text [] = None
-named_among p text (d ∷ ds) = cond (bytes_eq (domain_text p d) text) (Some d) (named_among p text ds)
+abbrev pub first_with : {X : Type 0} → (X → List ℕ) → List ℕ → List X → Option X
+first_with of text [] = None
+first_with of text (x ∷ xs) = cond (bytes_eq (of x) text) (Some x) (first_with of text xs)
 
 abbrev pub domain_named : Layout → List ℕ → Option DomainId
-domain_named p text = named_among p text (domains p)
-
-abbrev pub edge_among : Layout → List ℕ → List Edge → Option Edge
-edge_among p text [] = None
-edge_among p text (e ∷ es) = cond (bytes_eq (edge_text p e) text) (Some e) (edge_among p text es)
+domain_named p text = first_with (domain_text p) text (domains p)
 
 abbrev pub edge_named : Layout → List ℕ → Option Edge
-edge_named p text = edge_among p text (edges p)
+edge_named p text = first_with (edge_text p) text (edges p)
 
 -- it is one of the plan's domains, or edges, with the text, and each of them is found by its text
 abbrev pub IsDomainWith : Layout → List ℕ → Option DomainId → Type 0

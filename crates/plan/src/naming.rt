@@ -1,6 +1,6 @@
 //! Texts of domains and edges, and reading them back.
 ghost use Rattle.std.specs.Prelude.{◌≡◌, IfOk, string_bytes};
-ghost use Rattle.plan.specs.Domains.{domain_text, edge_text, numbered, base_shards, named_among, edge_among, domain_named, edge_named, IsDomainWith, IsEdgeWith};
+ghost use Rattle.plan.specs.Domains.{domain_text, edge_text, numbered, base_shards, first_with, domain_named, edge_named, IsDomainWith, IsEdgeWith};
 
 use crate::domain::{DomainId, Edge, push_bases};
 use crate::plan::Plan;
@@ -39,7 +39,7 @@ impl Plan {
         let mut domains = self.base_shards(alloc)?;
         domains.append(&mut self.stage_shards(alloc)?)?;
         domains.append(&mut self.view_shards(alloc)?)?;
-        self.named_among(alloc, text, &domains)
+        self.first_with(alloc, text, &domains)
     }
 
     /// The edge of the plan that has this text. Errors: memory only. Cost: the text of each edge,
@@ -51,7 +51,7 @@ impl Plan {
     {
         self.keeps_profile();
         let edges = self.edges(alloc)?;
-        self.edge_among(alloc, text, &edges)
+        self.first_with(alloc, text, &edges)
     }
 
     /// The shards of all tables, table by table.
@@ -65,36 +65,48 @@ impl Plan {
         Ok(out)
     }
 
-    fn named_among(
+    /// The first of these that has the text.
+    fn first_with<T: HasText>(
         &self,
         alloc: Global,
         text: &str,
-        domains: &[DomainId],
-    ) -> Result<Option<DomainId>, AllocError>
-        ensures { IfOk result (λ d. d ≡ named_among self.now text.now domains.now) }
+        all: &[T],
+    ) -> Result<Option<T>, AllocError>
+        ensures { IfOk result (λ x. x ≡ first_with (T.text_of self.now) text.now all.now) }
     {
-        for domain in domains {
-            if self.domain_text(alloc, *domain)?.as_str() == text {
-                return Ok(Some(*domain));
+        for one in all {
+            if one.text(alloc, self)?.as_str() == text {
+                return Ok(Some(*one));
             }
         }
         Ok(None)
     }
+}
 
-    fn edge_among(
-        &self,
-        alloc: Global,
-        text: &str,
-        edges: &[Edge],
-    ) -> Result<Option<Edge>, AllocError>
-        ensures { IfOk result (λ e. e ≡ edge_among self.now text.now edges.now) }
-    {
-        for edge in edges {
-            if self.edge_text(alloc, *edge)?.as_str() == text {
-                return Ok(Some(*edge));
-            }
-        }
-        Ok(None)
+/// What has a text in a plan.
+trait HasText: Copy {
+    ghost use Rattle.std.specs.Prelude.{ℕ, List};
+    ghost use Rattle.plan.specs.Layouts.{Layout};
+
+    ghost text_of: { Layout → Self → List ℕ };
+
+    fn text(self, alloc: Global, plan: &Plan) -> Result<String, AllocError>
+        ensures { IfOk result (λ s. string_bytes s ≡ text_of plan.now self) };
+}
+
+impl HasText for DomainId {
+    ghost text_of = { domain_text };
+
+    fn text(self, alloc: Global, plan: &Plan) -> Result<String, AllocError> {
+        plan.domain_text(alloc, self)
+    }
+}
+
+impl HasText for Edge {
+    ghost text_of = { edge_text };
+
+    fn text(self, alloc: Global, plan: &Plan) -> Result<String, AllocError> {
+        plan.edge_text(alloc, self)
     }
 }
 
