@@ -1,12 +1,13 @@
 //! Drafts: the parts of a plan, before it is known whether they make one.
 ghost use Rattle.std.specs.Prelude.{◌≡◌};
 ghost use Rattle.plan.specs.Layouts.{kind_at, table_at};
-ghost use Rattle.plan.specs.Profile.{is_new, are_apart, is_one_kind, told, told_table, width_at, table_names, view_names, both_apart, has_view_names, has_names, is_key_of, is_aggregate};
+ghost use Rattle.plan.specs.Profile.{is_one_kind, told, told_table, width_at, both_apart, has_view_names, has_names, is_key_of, is_aggregate};
 
 use crate::kinds::{Aggregate, Kind};
+use crate::names::{are_apart, is_new};
 use crate::plan::ViewPlan;
 use crate::stage::Side;
-use crate::table::{Table, is_from};
+use crate::table::Table;
 use std::marker::Model;
 
 /// The parts of a plan: the tables, the shards of the stage, its sides, the aggregate, how many
@@ -92,13 +93,13 @@ impl Draft {
     pub(crate) fn has_names(&self) -> bool
         ensures { result ≡ has_names self.now }
     {
-        tables_apart(&self.tables) && self.has_view_names()
+        are_apart(&self.tables) && self.has_view_names()
     }
 
     fn has_view_names(&self) -> bool
         ensures { result ≡ has_view_names self.now }
     {
-        views_apart(&self.views) && both_apart(&self.tables, &self.views)
+        are_apart(&self.views) && both_apart(&self.tables, &self.views)
     }
 }
 
@@ -112,57 +113,9 @@ pub(crate) fn is_one_kind(a: Option<Kind>, b: Option<Kind>) -> bool
     }
 }
 
-/// Whether no two tables have one name.
-fn tables_apart(tables: &[Table]) -> bool
-    ensures { result ≡ are_apart (table_names tables.now) }
-{
-    for (at, table) in tables.iter().enumerate() {
-        if !is_new_table(table.name(), &tables[at + 1..]) {
-            return false;
-        }
-    }
-    true
-}
-
-/// Whether no table has the name.
-pub(crate) fn is_new_table(name: &str, tables: &[Table]) -> bool
-    ensures { result ≡ is_new name.now (table_names tables.now) }
-{
-    for table in tables {
-        if name == table.name() {
-            return false;
-        }
-    }
-    true
-}
-
-/// Whether no two views have one name.
-fn views_apart(views: &[ViewPlan]) -> bool
-    ensures { result ≡ are_apart (view_names views.now) }
-{
-    for (at, view) in views.iter().enumerate() {
-        if !is_new_view(view.name(), &views[at + 1..]) {
-            return false;
-        }
-    }
-    true
-}
-
-/// Whether no view has the name.
-pub(crate) fn is_new_view(name: &str, views: &[ViewPlan]) -> bool
-    ensures { result ≡ is_new name.now (view_names views.now) }
-{
-    for view in views {
-        if name == view.name() {
-            return false;
-        }
-    }
-    true
-}
-
 /// Whether no view has the name of a table.
 fn both_apart(tables: &[Table], views: &[ViewPlan]) -> bool
     ensures { result ≡ both_apart tables.now views.now }
 {
-    tables.iter().all(|table| is_new_view(table.name(), views))
+    tables.iter().all(|table| is_new(table.name(), views))
 }

@@ -1,7 +1,7 @@
 //! A checked plan, which contracts see as its layout.
 ghost use Rattle.std.specs.Prelude.{◌≡◌, ◌<◌, ◌≤◌, IfOk, IfSome, MatchOption, length, string_bytes};
 ghost use Rattle.std.specs.Option.{option_copied};
-ghost use Rattle.plan.specs.Layouts.{table_at, table_named, view_at, view_named};
+ghost use Rattle.plan.specs.Layouts.{ViewLayout, table_at, table_named, view_at, view_named};
 ghost use Rattle.plan.specs.Facts.{Facts};
 ghost use Rattle.plan.specs.Outputs.{key_place};
 ghost use Rattle.plan.specs.Profile.{IsPlan};
@@ -9,6 +9,7 @@ ghost use Rattle.plan.specs.Recipes.{notes_plan, view};
 
 use crate::draft::Draft;
 use crate::kinds::{Aggregate, Kind};
+use crate::names::Named;
 use crate::stage::Side;
 use crate::table::{Column, Table};
 use std::alloc::{AllocError, Global};
@@ -77,6 +78,14 @@ impl ViewPlan {
         ensures { result ≡ self.now.cap }
     {
         self.cap
+    }
+}
+
+impl Named for ViewPlan {
+    ghost name_of = { λ (v : ViewLayout). v.name };
+
+    fn own_name(&self) -> &str {
+        self.name()
     }
 }
 

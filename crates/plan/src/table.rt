@@ -1,15 +1,15 @@
 //! Tables and their columns.
-ghost use Rattle.std.specs.Prelude.{◌≡◌, ◌<◌, ◌&&◌, length, map, string_bytes, IfOk};
+ghost use Rattle.std.specs.Prelude.{◌≡◌, ◌<◌, ◌&&◌, length, string_bytes, IfOk};
 ghost use Rattle.std.specs.Bool.{OnTrue};
 ghost use Rattle.std.specs.List.{list_all};
 ghost use Rattle.row.specs.Cells.{datum_of};
 ghost use Rattle.plan.specs.Kinds.{is_cell, is_row};
-ghost use Rattle.plan.specs.Layouts.{ColumnLayout, column_at, kind_at};
+ghost use Rattle.plan.specs.Layouts.{ColumnLayout, TableLayout, column_at, kind_at};
 ghost use Rattle.plan.specs.Recipes.{table};
-ghost use Rattle.plan.specs.Profile.{is_from, is_name, is_new, are_apart, table_is_small, columns_are_apart};
+ghost use Rattle.plan.specs.Profile.{is_from, is_name, table_is_small, columns_are_apart};
 
 use crate::kinds::Kind;
-use crate::names::is_name;
+use crate::names::{Named, are_apart, is_name};
 use row::row::Row;
 use row::value::Value;
 use std::alloc::{AllocError, Global};
@@ -60,6 +60,14 @@ impl Column {
         ensures { result.now ≡ self.now.name }
     {
         &self.name
+    }
+}
+
+impl Named for Column {
+    ghost name_of = { λ (c : ColumnLayout). c.name };
+
+    fn own_name(&self) -> &str {
+        self.name()
     }
 }
 
@@ -187,6 +195,14 @@ impl Table {
     }
 }
 
+impl Named for Table {
+    ghost name_of = { λ (t : TableLayout). t.name };
+
+    fn own_name(&self) -> &str {
+        self.name()
+    }
+}
+
 /// Whether all columns have names.
 fn are_named(columns: &[Column]) -> bool
     ensures { result ≡ list_all (λ (c : ColumnLayout). is_name c.name) columns.now }
@@ -211,28 +227,4 @@ pub(crate) fn is_from(least: usize, most: usize, n: usize) -> bool
     ensures { result ≡ is_from least most n }
 {
     least <= n && n <= most
-}
-
-/// Whether no two columns have one name.
-fn are_apart(columns: &[Column]) -> bool
-    ensures { result ≡ are_apart (map (λ (c : ColumnLayout). c.name) columns.now) }
-{
-    for (at, column) in columns.iter().enumerate() {
-        if !is_new(column.name(), &columns[at + 1..]) {
-            return false;
-        }
-    }
-    true
-}
-
-/// Whether no column has the name.
-fn is_new(name: &str, columns: &[Column]) -> bool
-    ensures { result ≡ is_new name.now (map (λ (c : ColumnLayout). c.name) columns.now) }
-{
-    for column in columns {
-        if name == column.name() {
-            return false;
-        }
-    }
-    true
 }
