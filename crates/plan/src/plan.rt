@@ -94,13 +94,7 @@ impl Named for ViewPlan {
 /// names that are apart.
 #[derive(Drop)]
 pub struct Plan {
-    tables: Vec<Table>,
-    stages: usize,
-    left: Side,
-    right: Option<Side>,
-    aggregate: Option<Aggregate>,
-    cap: usize,
-    views: Vec<ViewPlan>,
+    parts: Draft,
 }
 
 impl Model for Plan {
@@ -109,25 +103,9 @@ impl Model for Plan {
 
     ghost Value = { Layout };
 
-    ghost view = { λ p. record {
-      tables = p.tables.items;
-      stages = p.stages;
-      left = p.left;
-      right = p.right;
-      aggregate = p.aggregate;
-      cap = p.cap;
-      views = p.views.items;
-    } };
+    ghost view = { λ p. p.parts };
 
-    ghost invariant = { λ p. IsPlan (record {
-      tables = p.tables.items;
-      stages = p.stages;
-      left = p.left;
-      right = p.right;
-      aggregate = p.aggregate;
-      cap = p.cap;
-      views = p.views.items;
-    }) };
+    ghost invariant = { λ p. IsPlan p.parts };
 }
 
 impl Plan {
@@ -145,7 +123,7 @@ impl Plan {
         tables.push(Table::new(String::from_str(alloc, "notes")?, 1, 0, columns))?;
         let mut views = Vec::new(alloc);
         views.push(ViewPlan::new(String::from_str(alloc, "by_author")?, 1, 1, 4))?;
-        Ok(Plan {
+        let parts = Draft {
             tables,
             stages: 1,
             left: Side::new(0, 0, Vec::new(alloc)),
@@ -153,7 +131,8 @@ impl Plan {
             aggregate: None,
             cap: 1024,
             views,
-        })
+        };
+        Ok(Plan { parts })
     }
 
     /// The plan of these parts, or nothing where one of the six checks refuses them. Takes no
@@ -172,22 +151,14 @@ impl Plan {
         requires { IsPlan draft }
         ensures { result ≡ draft }
     {
-        Plan {
-            tables: draft.tables,
-            stages: draft.stages,
-            left: draft.left,
-            right: draft.right,
-            aggregate: draft.aggregate,
-            cap: draft.cap,
-            views: draft.views,
-        }
+        Plan { parts: draft }
     }
 
     /// The plan is of the profile, which its type keeps. Does nothing: a caller learns its facts.
     pub fn keeps_profile(&self)
         ensures { Facts self.now }
     {
-        let _tables = &self.tables;
+        let _parts = &self.parts;
     }
 
     /// The place of the table with this name. Costs a look at each name.
@@ -195,7 +166,10 @@ impl Plan {
         ensures place { result ≡ table_named self.now name.now }
         ensures there { IfSome result (λ table. table < length self.now.tables) }
     {
-        self.tables.iter().position(|table| table.name() == name)
+        self.parts
+            .tables
+            .iter()
+            .position(|table| table.name() == name)
     }
 
     /// How many tables there are.
@@ -204,7 +178,7 @@ impl Plan {
         ensures few { result ≤ 8 }
     {
         self.keeps_profile();
-        self.tables.len()
+        self.parts.tables.len()
     }
 
     /// The table at this place.
@@ -215,14 +189,14 @@ impl Plan {
         ensures shards { result.now.shards ≤ 8 }
     {
         self.keeps_profile();
-        &self.tables[table]
+        &self.parts.tables[table]
     }
 
     /// How many shards the table at this place has, or 0 where there is no table.
     pub(crate) fn table_shards(&self, table: usize) -> usize
         ensures { result ≡ (table_at self.now table).shards }
     {
-        match self.tables.get(table) {
+        match self.parts.tables.get(table) {
             Some(table) => table.shards(),
             None => 0,
         }
@@ -232,7 +206,7 @@ impl Plan {
     pub(crate) fn table_name(&self, table: usize) -> &str
         ensures { result.now ≡ (table_at self.now table).name }
     {
-        match self.tables.get(table) {
+        match self.parts.tables.get(table) {
             Some(table) => table.name(),
             None => "",
         }
@@ -242,7 +216,7 @@ impl Plan {
     pub(crate) fn view_name(&self, view: usize) -> &str
         ensures { result.now ≡ (view_at self.now view).name }
     {
-        match self.views.get(view) {
+        match self.parts.views.get(view) {
             Some(view) => view.name(),
             None => "",
         }
@@ -252,36 +226,35 @@ impl Plan {
     pub fn stages(&self) -> usize
         ensures { result ≡ self.now.stages }
     {
-        self.stages
+        self.parts.stages
     }
 
     /// The left side of the stage.
     pub fn left(&self) -> &Side
         ensures { result.now ≡ self.now.left }
     {
-        &self.left
+        &self.parts.left
     }
 
     /// The right side of the stage, if it has one.
     pub fn right(&self) -> Option<&Side>
         ensures { option_copied result ≡ self.now.right }
     {
-        self.right.as_ref()
+        self.parts.right.as_ref()
     }
 
     /// The aggregate of partners or of a group, if there is one.
     pub fn aggregate(&self) -> Option<Aggregate>
         ensures { result ≡ self.now.aggregate }
     {
-        self.aggregate
+        self.parts.aggregate
     }
 
     /// How many filled keys a stage shard keeps.
     pub fn cap(&self) -> usize
         ensures { result ≡ self.now.cap }
     {
-        let Plan { cap, .. } = self;
-        *cap
+        self.parts.cap
     }
 
     /// The place of the view with this name. Costs a look at each name.
@@ -289,14 +262,14 @@ impl Plan {
         ensures place { result ≡ view_named self.now name.now }
         ensures there { IfSome result (λ view. view < length self.now.views) }
     {
-        self.views.iter().position(|view| view.name() == name)
+        self.parts.views.iter().position(|view| view.name() == name)
     }
 
     /// How many views there are.
     pub fn views(&self) -> usize
         ensures { result ≡ length self.now.views }
     {
-        self.views.len()
+        self.parts.views.len()
     }
 
     /// The view at this place.
@@ -304,7 +277,7 @@ impl Plan {
         requires { view < length self.now.views }
         ensures { result.now ≡ view_at self.now view }
     {
-        &self.views[view]
+        &self.parts.views[view]
     }
 
     /// The place in an output row of the column that keys the view: the first where the rows of
@@ -313,7 +286,7 @@ impl Plan {
         requires { view < length self.now.views }
         ensures { result ≡ key_place self.now.right self.now.aggregate (view_at self.now view).key }
     {
-        if self.right.is_none() && self.aggregate.is_some() {
+        if self.parts.right.is_none() && self.parts.aggregate.is_some() {
             0
         } else {
             self.view(view).key()
