@@ -74,8 +74,7 @@ impl Floors {
         requires shard { shard < length (slice_index_or self.old view []) }
         ensures { self.new ≡ with_floor self.old view shard cut }
     {
-        let row = &mut self.rows[view];
-        row[shard] = cut;
+        self.rows[view][shard] = cut;
     }
 }
 

@@ -104,7 +104,6 @@ impl Lengths {
         requires source { source < length (slice_index_or self.old stage []) }
         ensures { self.new ≡ with_length self.old stage source len }
     {
-        let line = &mut self.lines[stage];
-        line[source] = len;
+        self.lines[stage][source] = len;
     }
 }

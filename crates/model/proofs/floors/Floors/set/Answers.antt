@@ -8,6 +8,6 @@ pub returns : goal.returns
 returns c =
     let lists = λ (v : Vec Lengths Global). v.items in
     let rows = c.self.inside.rows.items in
-    let row = c.index_mut-row.result.now in
+    let row = c.index_mut.result.now in
     let there : c.args.view < length (map lists rows) = rw c.self.view_is c.requires.view in
-    rw (← c.self.view_is) (set_in lists rows c.args.view c.args.shard c.args.cut row (with_item row c.args.shard c.args.cut) there c.index_mut-row.ensures.value refl)
+    rw (← c.self.view_is) (set_in lists rows c.args.view c.args.shard c.args.cut row (with_item row c.args.shard c.args.cut) there c.index_mut.ensures.value refl)
