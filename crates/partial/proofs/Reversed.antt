@@ -11,6 +11,7 @@ use Rattle.std.specs.List.{IsDistinct, AllByRecursion}
 use Rattle.std.specs.Map.{lookup, lookup_entry, keys_of, remove_entry, set_value}
 use Rattle.std.specs.Set.{remove_key}
 use Rattle.std.specs.Result.{OnOk}
+use Rattle.partial.specs.States.{changed_at}
 
 pub reverse-cons : {X : Type 0} (x : X) (xs : List X) → reverse (x ∷ xs) ≡ reverse xs ++ x ∷ []
 reverse-cons x xs = reverse-append (x ∷ []) xs
@@ -178,17 +179,18 @@ distinct_removed {K} {X} eq test (e ∷ es) d = step (test e.0) (distinct_remove
     step true rest = IsDistinct-tail eq e.0 (keys_of es) d
     step false rest = IsDistinct-cons eq e.0 (keys_of (remove_entry test es)) (all_removed (λ y. eq e.0 y ≡ false) test es (IsDistinct-head eq e.0 (keys_of es) d)) rest
 
+-- equal keys find the same
+lookup_agrees : {K X : Type 0} {eq : K → K → Bool} → IsEquivalence eq → (key k : K) (ds : List (K × X)) → eq key k ≡ true → lookup (eq k) ds ≡ lookup (eq key) ds
+lookup_agrees laws key k [] t = refl
+lookup_agrees {K} {X} {eq} laws key k (d ∷ ds) t = ap (λ b. cond b (Some d.1) (lookup (eq k) ds)) (sym (laws.congr key k d.0 t)) ∙ ap (cond (eq key d.0) (Some d.1)) (lookup_agrees laws key k ds t)
+
 -- what a look-up then finds
 pub pushed_lookup : {K X : Type 0} {eq : K → K → Bool} → IsEquivalence eq → (key k : K) (v : X) (es : List (K × X)) → lookup (eq key) es ≡ None
     → lookup (eq k) (es ++ (key, v) ∷ []) ≡ cond (eq key k) (Some v) (lookup (eq k) es)
 pushed_lookup {K} {X} {eq} laws key k v es none = step (eq key k) refl
   where
-    agrees : eq key k ≡ true → (ds : List (K × X)) → lookup (eq k) ds ≡ lookup (eq key) ds
-    agrees t [] = refl
-    agrees t (d ∷ ds) = ap (λ b. cond b (Some d.1) (lookup (eq k) ds)) (sym (laws.congr key k d.0 t)) ∙ ap (λ o. cond (eq key d.0) (Some d.1) o) (agrees t ds)
-
     step : (b : Bool) → eq key k ≡ b → lookup (eq k) (es ++ (key, v) ∷ []) ≡ cond b (Some v) (lookup (eq k) es)
-    step true t = lookup-push_passing (eq k) es (key, v) (agrees t es ∙ none) (laws.symm k key ∙ t)
+    step true t = lookup-push_passing (eq k) es (key, v) (lookup_agrees laws key k es t ∙ none) (laws.symm k key ∙ t)
     step false t = lookup-push_failing (eq k) es (key, v) (laws.symm k key ∙ t)
 
 -- what a removal leaves
@@ -214,6 +216,25 @@ changed_lookup {K} {X} {eq} laws key k es w d there =
 
 pub changed_order : {K X : Type 0} (test : K → Bool) (es : List (K × X)) (w : X) → keys_of (reverse (set_value test es w)) ≡ keys_of (reverse es)
 changed_order test es w = keys-reverse (set_value test es w) ∙ ap reverse (keys-set_value test es w) ∙ sym (keys-reverse es)
+
+-- what a change of the value at a key leaves, and what there is where the key is not there
+module _ {K X : Type 0} {eq : K → K → Bool} (laws : IsEquivalence eq) (key : K) (es : List (K × X)) (d : IsDistinct eq (keys_of es)) (f : X → X) where
+  found_as : (k : K) → eq key k ≡ true → lookup (eq k) (reverse es) ≡ lookup (eq key) es
+  found_as k t = lookup-reverse laws k es d ∙ lookup_agrees laws key k es t
+
+  pub changed_all : (v w : X) → Some v ≡ lookup (eq key) es → w ≡ f v → (k : K) → lookup (eq k) (reverse (set_value (eq key) es w)) ≡ changed_at f (eq key k) (lookup (eq k) (reverse es))
+  changed_all v w there is k = changed_lookup laws key k es w d (subst IsSome there refl) ∙ step (eq key k) refl
+    where
+      step : (b : Bool) → eq key k ≡ b → cond b (Some w) (lookup (eq k) (reverse es)) ≡ changed_at f b (lookup (eq k) (reverse es))
+      step true t = ap Some is ∙ ap (option_map f) (there ∙ sym (found_as k t))
+      step false t = refl
+
+  pub absent_all : None ≡ lookup (eq key) es → (k : K) → lookup (eq k) (reverse es) ≡ changed_at f (eq key k) (lookup (eq k) (reverse es))
+  absent_all gone k = step (eq key k) refl
+    where
+      step : (b : Bool) → eq key k ≡ b → lookup (eq k) (reverse es) ≡ changed_at f b (lookup (eq k) (reverse es))
+      step true t = let none : lookup (eq k) (reverse es) ≡ None = found_as k t ∙ sym gone in rw none refl
+      step false t = refl
 
 -- the entries behind the first have no key that is the first's
 first_gone : {K X : Type 0} {eq : K → K → Bool} → IsEquivalence eq → (key k : K) (v : X) (es : List (K × X)) → IsDistinct eq (keys_of es) → slice_get es 0 ≡ Some (key, v)

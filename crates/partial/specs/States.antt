@@ -48,6 +48,11 @@ is_hole Hole = true
 is_hole (Waiting pieces) = false
 is_hole (Filled entry) = false
 
+abbrev pub is_waiting : {E : Type 0} → State E → Bool
+is_waiting Hole = false
+is_waiting (Waiting pieces) = true
+is_waiting (Filled entry) = false
+
 abbrev pub is_filled : {E : Type 0} → State E → Bool
 is_filled Hole = false
 is_filled (Waiting pieces) = false
@@ -80,6 +85,10 @@ abbrev pub somes : {E : Type 0} → List (Option E) → List E
 somes [] = []
 somes (None ∷ rest) = somes rest
 somes (Some p ∷ rest) = p ∷ somes rest
+
+-- what is found at a key, changed by f if it is the one that is meant
+abbrev pub changed_at : {E : Type 0} → (E → E) → Bool → Option E → Option E
+changed_at f is found = if is then option_map f found else found
 
 -- a hole begins to wait for a piece of each of n sources
 abbrev pub begun : {E : Type 0} → ℕ → State E → State E

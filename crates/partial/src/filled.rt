@@ -5,9 +5,15 @@ ghost use Rattle.std.specs.Map.Iter.{TakesFirst, deref_pair};
 ghost use Rattle.std.specs.Iterator.{at_most};
 ghost use Rattle.std.specs.Map.{lookup, keys_of};
 ghost use Rattle.std.specs.Set.{remove_key};
+ghost use Rattle.std.specs.List.{IsDistinct};
+ghost use Rattle.row.specs.Bags.{times, inserted, removed};
+ghost use Rattle.row.specs.Cells.{row_cmp};
+ghost use Rattle.partial.specs.States.{changed_at};
 
 use crate::gather::Gather;
 use lru::{Iter, LruCache};
+use row::bag::Bag;
+use row::row::Row;
 use std::alloc::{AllocError, Global};
 use std::hash::Hash;
 use std::marker::Model;
@@ -99,6 +105,14 @@ impl<K: Eq + Hash + Drop, E: Drop> Filled<K, E> {
         let (key, _) = self.latest.pop_lru()?;
         Some(key)
     }
+
+    /// No key is there twice, which the type keeps. Does nothing: a caller learns it.
+    pub fn keeps_once(&self)
+        ensures { IsDistinct K.eq (keys_of self.now) }
+    {
+        let _ = self.latest.len();
+    }
+
     /// The keys with their entries, from the one that was filled first. Takes no memory.
     pub fn iter(&self) -> Walk<'_, K, E>
         ensures { result ≡ self.now }
@@ -110,8 +124,8 @@ impl<K: Eq + Hash + Drop, E: Drop> Filled<K, E> {
 }
 
 impl<K: Eq + Hash + Drop, E: Gather> Filled<K, E> {
-    /// Applies the change to the key's entry, if there is one. Errors: memory only; what is then
-    /// left of that entry is not said. Constant time, and that of the change.
+    /// Applies the change to the key's entry, if there is one. Errors: memory only; then all is as
+    /// it was. Constant time, and that of the change.
     pub fn apply(&mut self, alloc: Global, key: &K, change: &E::Change) -> Result<(), AllocError>
         requires { ForSome (lookup (K.eq key.now) self.old) (λ e. E.fits e change.now) }
         ensures applied { OnOk result (lookup (K.eq key.now) self.new
@@ -119,11 +133,44 @@ impl<K: Eq + Hash + Drop, E: Gather> Filled<K, E> {
         ensures others { (k : K) → K.eq key.now k ≡ false → lookup (K.eq k) self.new
             ≡ lookup (K.eq k) self.old }
         ensures order { keys_of self.new ≡ keys_of self.old }
+        ensures err { OnErr result (self.new ≡ self.old) }
     {
         let _ = self.latest.len();
         match self.latest.peek_mut(key) {
             Some(entry) => entry.apply(alloc, change),
             None => Ok(()),
+        }
+    }
+}
+
+impl<K: Eq + Hash + Drop> Filled<K, Bag> {
+    /// Adds one row to the key's entry, if there is one. Errors: memory only; then all is as it
+    /// was. Constant time, and that of `Bag::add`.
+    pub fn add(&mut self, key: &K, row: Row) -> Result<(), AllocError>
+        ensures added { OnOk result ((k : K) → lookup (K.eq k) self.new
+            ≡ changed_at (inserted row_cmp row) (K.eq key.now k) (lookup (K.eq k) self.old)) }
+        ensures order { keys_of self.new ≡ keys_of self.old }
+        ensures err { OnErr result (self.new ≡ self.old) }
+    {
+        let _ = self.latest.len();
+        match self.latest.peek_mut(key) {
+            Some(rows) => rows.add(row),
+            None => Ok(()),
+        }
+    }
+
+    /// Takes one of a row that is there away from the key's entry, if there is one. Takes no
+    /// memory. Constant time, and that of `Bag::subtract`.
+    pub fn subtract(&mut self, key: &K, row: &Row)
+        requires { ForSome (lookup (K.eq key.now) self.old) (λ rows. 0 < times row_cmp row.now rows) }
+        ensures taken { (k : K) → lookup (K.eq k) self.new
+            ≡ changed_at (removed row_cmp row.now) (K.eq key.now k) (lookup (K.eq k) self.old) }
+        ensures order { keys_of self.new ≡ keys_of self.old }
+    {
+        let _ = self.latest.len();
+        match self.latest.peek_mut(key) {
+            Some(rows) => rows.subtract(row),
+            None => {}
         }
     }
 }

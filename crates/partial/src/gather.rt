@@ -1,6 +1,6 @@
 //! What a gather needs of an entry: pieces take changes, and the sum of the pieces takes what a
 //! piece takes.
-ghost use Rattle.std.specs.Prelude.{◌≡◌, List, ◌∷◌, ◌++◌, OnOk, IfOk};
+ghost use Rattle.std.specs.Prelude.{◌≡◌, List, ◌∷◌, ◌++◌, OnOk, OnErr, IfOk};
 
 use std::alloc::{AllocError, Global};
 
@@ -25,11 +25,11 @@ pub trait Gather: Drop {
     /// The sum of the pieces.
     ghost total: { List Self → Self };
 
-    /// Applies the change, which fits. Errors: memory only; what is then left of the entry is not
-    /// said.
+    /// Applies the change, which fits. Errors: memory only; then the entry is as it was.
     fn apply(&mut self, alloc: Global, change: &Self::Change) -> Result<(), AllocError>
         requires { fits self.old change.now }
-        ensures { OnOk result (self.new ≡ plus self.old change.now) };
+        ensures applied { OnOk result (self.new ≡ plus self.old change.now) }
+        ensures err { OnErr result (self.new ≡ self.old) };
 
     /// The sum of the pieces. Errors: memory only.
     fn gather(alloc: Global, pieces: Vec<Self>) -> Result<Self, AllocError>

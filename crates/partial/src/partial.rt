@@ -1,10 +1,14 @@
 //! Partial state: for each key a hole, a gather with the pieces in hand, or a filled entry. (Of
 //! the Noria paper: partially stateful dataflow, with upqueries that fill and evictions that
 //! open.)
-ghost use Rattle.std.specs.Prelude.{◌≡◌, ℕ, [], List, None, Some, OnOk, OnErr, IfOk, IfSome, IfNone, true, false, length, drop, slice_get, slice_set};
-ghost use Rattle.std.specs.Option.{option_copied};
+ghost use Rattle.std.specs.Prelude.{◌≡◌, ℕ, ◌<◌, [], List, None, Some, OnOk, OnErr, IfOk, IfSome, IfNone, true, false, length, drop, slice_get, slice_set};
+ghost use Rattle.std.specs.Option.{option_copied, ForSome};
 ghost use Rattle.std.specs.Set.{remove_key};
-ghost use Rattle.partial.specs.States.{State, Kept, IsApart, state_of, order_of, OthersStay, GoesLast, Hole, is_hole, entry_of, begun, fills, evicted, says_evicted, after_piece, after_change, ChangeFits};
+ghost use Rattle.std.specs.List.{IsDistinct};
+ghost use Rattle.std.specs.Map.{lookup};
+ghost use Rattle.row.specs.Bags.{times, inserted, removed};
+ghost use Rattle.row.specs.Cells.{row_cmp};
+ghost use Rattle.partial.specs.States.{State, Kept, IsApart, state_of, order_of, OthersStay, GoesLast, Hole, is_hole, is_waiting, changed_at, entry_of, begun, fills, evicted, says_evicted, after_piece, after_change, ChangeFits};
 ghost use Rattle.partial.specs.Truth.{IsTrueOf, with_part};
 
 use crate::filled::{Filled, Walk};
@@ -12,6 +16,8 @@ use crate::gather::Gather;
 use crate::pieces::Pieces;
 use crate::waiting::{drop_piece, take_whole};
 use indexmap::IndexMap;
+use row::bag::Bag;
+use row::row::Row;
 use std::alloc::{AllocError, Global};
 use std::hash::Hash;
 use std::marker::Model;
@@ -77,6 +83,20 @@ impl<K: Eq + Hash + Drop, E: Drop> Partial<K, E> {
         ensures { IsApart K.eq self.now }
     {
         let _sources = self.sources;
+    }
+
+    /// No key is filled twice, which the type keeps. Does nothing: a caller learns it.
+    pub fn keeps_once(&self)
+        ensures { IsDistinct K.eq (order_of self.now) }
+    {
+        self.filled.keeps_once();
+    }
+
+    /// Whether the key waits for pieces. Takes no memory. Constant time.
+    pub fn waits(&self, key: &K) -> bool
+        ensures { result ≡ is_waiting (state_of K.eq self.now key.now) }
+    {
+        self.waiting.contains_key(key)
     }
 
     /// The entry of a filled key, and of no other. Takes no memory. Constant time.
@@ -148,8 +168,8 @@ impl<K: Eq + Hash + Drop, E: Gather> Partial<K, E> {
     /// Takes in the piece of a source for a key that waits for it; with the last one the key is
     /// filled with the sum of the pieces, behind all keys that are filled, and the call says so. A
     /// piece for a key that does not wait, or from a source whose piece is here already, or that
-    /// there is not, changes nothing. Errors: memory only; what is then kept at the key is not
-    /// said. Cost: the number of sources, and that of the sum.
+    /// there is not, changes nothing. Errors: memory only; then the key is a hole. Cost: the number
+    /// of sources, and that of the sum.
     pub fn give_piece(
         &mut self,
         alloc: Global,
@@ -171,6 +191,7 @@ impl<K: Eq + Hash + Drop, E: Gather> Partial<K, E> {
             → IsTrueOf E.total parts (state_of K.eq self.old key.now)
             → OnOk result (IsTrueOf E.total parts (state_of K.eq self.new key.now)) }
         ensures err { OnErr result (order_of self.new ≡ order_of self.old) }
+        ensures lost { OnErr result (state_of K.eq self.new key.now ≡ Hole) }
     {
         match take_whole(&mut self.waiting, key, source, piece) {
             Some((stored, pieces)) => {
@@ -184,8 +205,8 @@ impl<K: Eq + Hash + Drop, E: Gather> Partial<K, E> {
 
     /// Takes in a change of the part that a source has: a filled entry takes it; where the key
     /// waits, the source's piece takes it if it is here, and else the change is dropped, since the
-    /// piece will have it; at a hole it is dropped. Errors: memory only; what is then kept at the
-    /// key is not said. Constant time, and that of the change.
+    /// piece will have it; at a hole it is dropped. Errors: memory only; then all is as it was.
+    /// Constant time, and that of the change.
     pub fn apply(
         &mut self,
         alloc: Global,
@@ -203,6 +224,7 @@ impl<K: Eq + Hash + Drop, E: Gather> Partial<K, E> {
             → E.fits part change.now → IsTrueOf E.total parts (state_of K.eq self.old key.now)
             → OnOk result (IsTrueOf E.total (slice_set parts source (E.plus part change.now))
             (state_of K.eq self.new key.now)) }
+        ensures err { OnErr result (self.new ≡ self.old) }
     {
         match self.waiting.get_mut(key) {
             Some(pieces) => pieces.apply(alloc, source, change),
@@ -232,5 +254,32 @@ impl<K: Eq + Hash + Drop, E: Gather> Partial<K, E> {
                 _ => Evicted::Nothing,
             }
         }
+    }
+}
+
+impl<K: Eq + Hash + Drop> Partial<K, Bag> {
+    /// Adds one row to the entry of a filled key; elsewhere it changes nothing. Errors: memory only;
+    /// then all is as it was. Constant time, and that of `Bag::add`.
+    pub fn add(&mut self, key: &K, row: Row) -> Result<(), AllocError>
+        ensures waiting { self.new ≡ record self.old { filled = self.new.filled } }
+        ensures added { OnOk result ((k : K) → lookup (K.eq k) self.new.filled
+            ≡ changed_at (inserted row_cmp row) (K.eq key.now k) (lookup (K.eq k) self.old.filled)) }
+        ensures order { order_of self.new ≡ order_of self.old }
+        ensures err { OnErr result (self.new ≡ self.old) }
+    {
+        self.filled.add(key, row)
+    }
+
+    /// Takes one of a row that is there away from the entry of a filled key; elsewhere it changes
+    /// nothing. Takes no memory. Constant time, and that of `Bag::subtract`.
+    pub fn subtract(&mut self, key: &K, row: &Row)
+        requires { ForSome (lookup (K.eq key.now) self.old.filled) (λ rows. 0
+            < times row_cmp row.now rows) }
+        ensures waiting { self.new ≡ record self.old { filled = self.new.filled } }
+        ensures taken { (k : K) → lookup (K.eq k) self.new.filled
+            ≡ changed_at (removed row_cmp row.now) (K.eq key.now k) (lookup (K.eq k) self.old.filled) }
+        ensures order { order_of self.new ≡ order_of self.old }
+    {
+        self.filled.subtract(key, row);
     }
 }

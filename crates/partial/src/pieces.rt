@@ -1,5 +1,5 @@
 //! The pieces in hand of a key that waits, with one place for each source.
-ghost use Rattle.std.specs.Prelude.{◌≡◌, ◌<◌, length, true, None, IfOk, OnOk, replicate, slice_set, slice_get};
+ghost use Rattle.std.specs.Prelude.{◌≡◌, ◌<◌, length, true, None, IfOk, OnOk, OnErr, replicate, slice_set, slice_get};
 ghost use Rattle.std.specs.Option.{ForSome, option_map};
 ghost use Rattle.partial.specs.States.{given, completes, is_missing, is_whole, somes, is_here, PieceFits, piece_changed};
 
@@ -94,7 +94,7 @@ impl<E: Drop> Pieces<E> {
 
 impl<E: Gather> Pieces<E> {
     /// Applies the change to the piece of the source, where it is here; else drops the change.
-    /// Errors: memory only; what is then left is not said.
+    /// Errors: memory only; then all is as it was.
     pub fn apply(
         &mut self,
         alloc: Global,
@@ -102,8 +102,9 @@ impl<E: Gather> Pieces<E> {
         change: &E::Change,
     ) -> Result<(), AllocError>
         requires { PieceFits E.fits change.now (slice_get self.old source) }
-        ensures { OnOk result (self.new ≡ piece_changed E.plus change.now source self.old
+        ensures changed { OnOk result (self.new ≡ piece_changed E.plus change.now source self.old
             (slice_get self.old source)) }
+        ensures err { OnErr result (self.new ≡ self.old) }
     {
         if source < self.places.len() {
             apply_at(&mut self.places[source], alloc, change)
@@ -120,7 +121,8 @@ fn apply_at<E: Gather>(
     change: &E::Change,
 ) -> Result<(), AllocError>
     requires { ForSome place.old (λ p. E.fits p change.now) }
-    ensures { OnOk result (place.new ≡ option_map (λ p. E.plus p change.now) place.old) }
+    ensures changed { OnOk result (place.new ≡ option_map (λ p. E.plus p change.now) place.old) }
+    ensures err { OnErr result (place.new ≡ place.old) }
 {
     match place {
         Some(piece) => piece.apply(alloc, change),
