@@ -25,6 +25,7 @@ use model::fronts::Fronts;
 use packet::line::Line;
 use packet::marks::Marks;
 use packet::mode::Mode;
+use packet::reader::Reader;
 use packet::stage_packet::StagePacket;
 use partial::partial::Partial;
 use plan::domain::Tag;
@@ -41,8 +42,7 @@ use std::marker::Model;
 #[derive(Drop)]
 pub struct ViewDomain<'p, F: Fronts> {
     plan: &'p Plan,
-    view: usize,
-    shard: usize,
+    reader: Reader,
     tag: Tag,
     cut: Vec<Line<F>>,
     kept: Partial<Value, Bag>,
@@ -59,11 +59,12 @@ impl<'p, F: Fronts> Model for ViewDomain<'p, F> {
 
     ghost Value = { Domain };
 
-    ghost view = { λ d. domain_of d.plan.now d.view d.shard d.cut.items d.kept d.asked d.marks
-        d.mode };
+    ghost view = { λ d. domain_of d.plan.now d.reader.view d.reader.shard d.cut.items d.kept
+        d.asked d.marks d.mode };
 
-    ghost invariant = { λ d. (d.tag.0 ≡ tag_of d.view) × (d.mode ≢ Broken → HoldsTruth
-        (domain_of d.plan.now d.view d.shard d.cut.items d.kept d.asked d.marks d.mode)) };
+    ghost invariant = { λ d. (d.tag.0 ≡ tag_of d.reader.view) × (d.mode ≢ Broken → HoldsTruth
+        (domain_of d.plan.now d.reader.view d.reader.shard d.cut.items d.kept d.asked d.marks
+        d.mode)) };
 }
 
 impl<'p, F: Fronts> ViewDomain<'p, F> {
@@ -93,8 +94,7 @@ impl<'p, F: Fronts> ViewDomain<'p, F> {
         let kept = Partial::new(alloc, plan.stages())?;
         Ok(ViewDomain {
             plan,
-            view,
-            shard,
+            reader: Reader { view, shard },
             tag: tag_for(plan, view),
             cut,
             kept,
@@ -126,14 +126,14 @@ impl<'p, F: Fronts> ViewDomain<'p, F> {
     pub fn shard(&self) -> usize
         ensures { result ≡ self.now.shard }
     {
-        self.shard
+        self.reader.shard
     }
 
     /// The view that it is a shard of.
     pub fn view(&self) -> usize
         ensures { result ≡ self.now.view }
     {
-        self.view
+        self.reader.view
     }
 
     /// The rows of a filled key, also where it has stopped: unless it is broken, those of a key of
@@ -240,7 +240,7 @@ impl<'p, F: Fronts> ViewDomain<'p, F> {
         }
         let asks = Asks {
             tag: self.tag,
-            cap: self.plan.view(self.view).cap(),
+            cap: self.plan.view(self.reader.view).cap(),
         };
         let Ok(made) = prepare(
             alloc,
