@@ -66,6 +66,23 @@ abbrev GoesAt : (v : List Page) (k : ℕ) (f : ℕ → ℕ) → (ℕ → View Pa
 GoesAt v k f then cs log x = (a : Act) × (more : List Page) × (t : Option ℕ) × Valid a no_nib × IsKept (cells_after a no_nib (slice_set cs k (f x.0, true))) (log ++ more)
     × Runs moved None t (shown log) (shown (log ++ more)) × then x.0 (log ++ more, (nib_after a no_nib cs, t))
 
+-- ---- a step that keeps the log, and its word as it is
+log_still : (p q : Layout) (n m : ℕ) (v log : List Page) → IsLogOf p n log → IsLogOf q m v → IsPrefix v log → IsLogOf q m (log ++ [])
+log_still p q n m v log of seen pre = subst (IsLogOf q m) (sym (append-nil log)) (log_by q p m n v log seen of pre)
+
+told_still : (p q : Layout) (n m : ℕ) (v log : List Page) (k : ℕ) → IsLogOf p n log → IsLogOf q m v → IsPrefix v log → count_at p k (history_of log) ≡ count_at q k (history_of (log ++ []))
+told_still p q n m v log k of seen pre =
+    let e = same_plan q p m n v log seen of pre in
+    subst (λ (o : Layout). count_at p k (history_of log) ≡ count_at o k (history_of (log ++ []))) e.0 (ap (λ l. count_at p k (history_of l)) (sym (append-nil log)))
+
+goes_still : (p : Layout) (n : ℕ) (v log : List Page) (k : ℕ) (f : ℕ → ℕ) (then : ℕ → View Page ℕ → Type 0) (cs : List Cell) → IsKeptBy p n cs log → k < length cs → f (count_at p k (history_of log)) ≡ count_at p k (history_of log)
+    → then (count_at p k (history_of log)) (log ++ [], (no_nib, None)) → GoesAt v k f then cs log (count_at p k (history_of log), true)
+goes_still p n v log k f then cs kept lt same done =
+    let cell = f (count_at p k (history_of log)) in
+    let words = set_words p cs (history_of log) (history_of log) k cell lt kept.words same (λ j apart. refl) in
+    let still : IsKept (slice_set cs k (cell, true)) log = (p, n, record { of = kept.of; width = length-set cs k _ ∙ kept.width; words = words }) in
+    (keeps, [], None, tt, subst (IsKept (slice_set cs k (cell, true))) (sym (append-nil log)) still, inl (refl, refl), done)
+
 -- one more item, of the word k
 pub count_one : (p : Layout) (h : List Item) (i : Item) (j : ℕ) → count_at p j (h ++ i ∷ []) ≡ count_at p j h + cond (word_of p i == j) 1 0
 count_one p h i j = omega (arith, count_append p j h (i ∷ []))
@@ -117,22 +134,10 @@ try_goes p n v log i k old cs a may own seen kept pre lt true is =
       },
     )
 try_goes p n v log i k old cs a may own seen kept pre lt false is =
-    let all : log ++ [] ≡ log = append-nil log in
-    let h : history_of (log ++ []) ≡ history_of log = ap history_of all in
-    let of' : IsLogOf p n (log ++ []) = subst (IsLogOf p n) (sym all) kept.of in
-    let y : either (count_at p k (history_of log) == old) (old + 1) (count_at p k (history_of log)) ≡ count_at p k (history_of log) = rw is refl in
-    let words = set_words p cs (history_of log) (history_of log) k _ lt kept.words y (λ j apart. refl) in (
-      keeps,
-      [],
-      None,
-      tt,
-      (p, n, record { of = of'; width = length-set cs k _ ∙ kept.width; words = rw h words }),
-      inl (refl, refl),
-      λ q m b. record {
-        of = log_by q p m n v (log ++ []) b of' (pre.0, pre.1 ∙ sym all);
-        tells = λ j ask. rw is (let e = same_plan q p m n v log b kept.of pre in subst (λ (o : Layout). count_at p k (history_of log) ≡ count_at o k (history_of (log ++ []))) e.0 (ap (count_at p k) (sym h)));
-      },
-    )
+    goes_still p n v log k (λ c. either (c == old) (old + 1) c) (Tries (step k old (old + 1) (adds i)) (v, (no_nib, None))) cs kept lt (rw is refl) (λ q m b. record {
+      of = log_still p q n m v log kept.of b pre;
+      tells = λ j ask. rw is (told_still p q n m v log k kept.of b pre);
+    })
 
 -- whatever the book is, the exchange adds the item, or finds that its word has moved
 pub try_moves : (p : Layout) (n : ℕ) (v : List Page) (i : Item) (k old : ℕ) → IsLogOf p n v → (count_at p k (history_of v) ≡ old → Allows p n (history_of v) i) → word_of p i ≡ k → k < base_count p + n → old ≤ count_at p k (history_of v)
@@ -149,21 +154,7 @@ try_moves p n v i k old a may own range seen cs log kept pre away =
 look_goes : (p : Layout) (n : ℕ) (v log : List Page) (k : ℕ) (i : Page) (cs : List Cell) → IsLogOf p n v → IsKeptBy p n cs log → IsPrefix v log → k < length cs
     → GoesAt v k (λ c. c) (Looks (step k 0 0 i) (v, (no_nib, None))) cs log (count_at p k (history_of log), true)
 look_goes p n v log k i cs a kept pre lt =
-    let all : log ++ [] ≡ log = append-nil log in
-    let h : history_of (log ++ []) ≡ history_of log = ap history_of all in
-    let of' : IsLogOf p n (log ++ []) = subst (IsLogOf p n) (sym all) kept.of in
-    let words = set_words p cs (history_of log) (history_of log) k _ lt kept.words refl (λ j apart. refl) in (
-      keeps,
-      [],
-      None,
-      tt,
-      (p, n, record { of = of'; width = length-set cs k _ ∙ kept.width; words = rw h words }),
-      inl (refl, refl),
-      λ q m b. (
-        log_by q p m n v (log ++ []) b of' (pre.0, pre.1 ∙ sym all),
-        (let e = same_plan q p m n v log b kept.of pre in subst (λ (o : Layout). count_at p k (history_of log) ≡ count_at o k (history_of (log ++ []))) e.0 (ap (count_at p k) (sym h))),
-      ),
-    )
+    goes_still p n v log k (λ c. c) (Looks (step k 0 0 i) (v, (no_nib, None))) cs kept lt refl (λ q m b. (log_still p q n m v log kept.of b pre, told_still p q n m v log k kept.of b pre))
 
 -- ---- what holds of a result
 pub any_err : {A E P : Type 0} (r : Result A E) → P → OnErr r P

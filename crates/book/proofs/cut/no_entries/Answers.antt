@@ -1,5 +1,4 @@
-use Rattle.std.proofs.Common.{◌≡◌, map, replicate, length, ap, ◌∙◌}
-use Rattle.book.specs.Fronts.{FrontView}
+use Rattle.std.proofs.Common.{replicate, length, ap, ◌∙◌}
 use Rattle.model.specs.Places.{sources}
 use Rattle.book.proofs.Lines.{zero_lens}
 use Rattle.book.proofs.cut.no_entries.Goals as goal
