@@ -179,22 +179,17 @@ impl<J: Naming> SessionWord<J> {
             rows.now.items cut.lengths self.new) }
         ensures stolen { OnErr result (IsStolen J.plan self.old self.new) }
     {
-        let Cut {
-            lengths,
-            seen,
-            of: _,
-        } = cut;
-        learn::<J>(&mut self.seen, &seen);
+        learn::<J>(&mut self.seen, &cut.seen);
         let asked = Reading {
             session: self.number,
             view,
             key,
             rows,
-            cut: &lengths,
+            cut: &cut.lengths,
         };
         self.add::<Reading, Add>(book, &asked)?;
         self.answered += 1;
-        self.floors.set(view, shard, lengths);
+        self.floors.set(view, shard, cut.lengths);
         Ok(())
     }
 
@@ -213,20 +208,15 @@ impl<J: Naming> SessionWord<J> {
             self.new) }
         ensures stolen { OnErr result (IsStolen J.plan self.old self.new) }
     {
-        let Cuts {
-            floors,
-            seen,
-            of: _,
-        } = cuts;
-        learn::<J>(&mut self.seen, &seen);
+        learn::<J>(&mut self.seen, &cuts.seen);
         let asked = Fencing {
             session: self.number,
             own,
-            floors: &floors,
+            floors: &cuts.floors,
         };
         self.add::<Fencing, Add>(book, &asked)?;
         self.answered += 1;
-        self.floors = floors;
+        self.floors = cuts.floors;
         Ok(())
     }
 }
