@@ -83,7 +83,7 @@ module _ {E : Type 0} (sum : List E → E) (s : ℕ) (p : E) where
       by false e = rw (completes_is pieces ∙ e, e) refl
 
 -- ---- all keys
-lookup_is : {E : Type 0} (k : Value) (es : List (Value × E)) → lookup (same (datum_of k)) (by_datum es) ≡ lookup (equal k) es
+pub lookup_is : {E : Type 0} (k : Value) (es : List (Value × E)) → lookup (same (datum_of k)) (by_datum es) ≡ lookup (equal k) es
 lookup_is k [] = refl
 lookup_is k (e ∷ es) = rw (eq-value_is k e.0, lookup_is k es) refl
 

@@ -1,0 +1,5 @@
+//! The right side of a stage shard, by stage key: the rows of some keys, and the pieces in hand of
+//! keys that wait for theirs.
+#![tactic(auto)]
+
+pub mod rights;
