@@ -5,3 +5,6 @@ mod Splits
 mod Rooms
 pub mod Sends
 mod Arrivals
+pub mod KeySteps
+pub mod GroupSteps
+pub mod GroupChanges

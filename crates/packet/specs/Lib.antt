@@ -10,3 +10,4 @@ pub mod Lines
 pub mod Codes
 pub mod Answers
 pub mod Outboxes
+pub mod Groups

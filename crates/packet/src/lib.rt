@@ -5,6 +5,7 @@
 pub mod answer;
 pub mod base_packet;
 pub mod edges;
+pub mod groups;
 pub mod keyed;
 pub mod line;
 pub mod marks;

@@ -1,9 +1,9 @@
 -- The loops over the pieces of a sum.
-use Rattle.std.proofs.Common.{◌≡◌, ℕ, zero, suc, ◌+◌, ◌<◌, List, [], ◌∷◌, length, get_or, take, ap, sym, ◌∙◌, add-one, arith}
+use Rattle.std.proofs.Common.{◌≡◌, ℕ, zero, suc, ◌+◌, ◌<◌, List, [], ◌∷◌, ◌++◌, length, get_or, take, ap, sym, ◌∙◌, add-one, arith}
 use Rattle.row.specs.Cells.{Cells, row_cmp}
 use Rattle.row.specs.CellOrder.{row_total, row_same}
-use Rattle.row.specs.Bags.{one, times, IsAscending, joined}
-use Rattle.row.proofs.BagLemmas.{times-sorted, IsAscending-sorted, one_list}
+use Rattle.row.specs.Bags.{one, times, inserted, sorted, IsAscending, joined}
+use Rattle.row.proofs.BagLemmas.{times-sorted, times-inserted, times-append, IsAscending-sorted, IsAscending-inserted, one_list}
 use Rattle.partial.specs.Sums.{sum_of_bags}
 
 -- a bag in order with the counts of the pieces is their sum
@@ -15,3 +15,9 @@ pub times-take : (z : Cells) (rows : List Cells) (i : ℕ) (r : Cells) → i < l
 times-take z [] i r small is = absurd (omega arith)
 times-take z (x ∷ rows) zero r small is = ap (λ y. one row_cmp z y + 0) (sym is)
 times-take z (x ∷ rows) (suc i) r small is = let h = times-take z rows i r (omega arith) is in let k = rw (add-one i) at h in rw (add-one (suc i)) (omega (arith, k))
+
+-- a row more
+pub sorted_more : (rows : List Cells) (x : Cells) → inserted row_cmp x (sorted row_cmp rows) ≡ sorted row_cmp (rows ++ x ∷ [])
+sorted_more rows x =
+    one_list row_cmp row_total row_same (inserted row_cmp x (sorted row_cmp rows)) (sorted row_cmp (rows ++ x ∷ [])) (IsAscending-inserted row_cmp row_total x (sorted row_cmp rows) (IsAscending-sorted row_cmp row_total rows)) (IsAscending-sorted row_cmp row_total (rows ++ x ∷ []))
+    (λ z. omega (arith, times-inserted row_cmp z x (sorted row_cmp rows), times-sorted row_cmp z rows, times-sorted row_cmp z (rows ++ x ∷ []), times-append row_cmp z rows (x ∷ [])))

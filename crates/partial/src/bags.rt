@@ -1,7 +1,7 @@
 //! Bags of rows are gathered: a change is a list of signed rows, and the sum that of bags.
 ghost use Rattle.std.specs.Prelude.{◌≡◌, ◌+◌, IfOk, OnOk};
 ghost use Rattle.row.specs.Cells.{Cells, row_cmp};
-ghost use Rattle.row.specs.Bags.{times, IsAscending};
+ghost use Rattle.row.specs.Bags.{times, sorted, IsAscending};
 ghost use Rattle.row.specs.Changes.{IsCovered};
 ghost use Rattle.row.specs.BagChanges.{with_records};
 ghost use Rattle.partial.specs.Sums.{sum_of_bags};
@@ -10,6 +10,7 @@ ghost use Rattle.partial.specs.BagLaws.{total_changes, total_fits};
 use crate::gather::Gather;
 use row::bag::Bag;
 use row::record::Record;
+use row::row::Row;
 use std::alloc::{AllocError, Global};
 
 impl Gather for Bag {
@@ -38,6 +39,18 @@ impl Gather for Bag {
     {
         sum(alloc, pieces)
     }
+}
+
+/// The bag of these rows. Errors: memory only. Cost: for each row that of `Bag::add`; none is
+/// copied.
+pub fn bag_of(alloc: Global, rows: Vec<Row>) -> Result<Bag, AllocError>
+    ensures { IfOk result (λ b. b ≡ sorted row_cmp rows.items) }
+{
+    let mut all = Bag::new(alloc);
+    for row in rows {
+        all.add(row)?;
+    }
+    Ok(all)
 }
 
 /// The sum of the bags.

@@ -1,18 +1,16 @@
 -- Requests, keys that begin to wait, and markers.
-use Rattle.std.proofs.Common.{◌≡◌, ℕ, zero, suc, ◌+◌, Bool, true, false, not, cond, List, [], ◌∷◌, ◌++◌, map, filter, replicate, length, refl, ap, sym, ◌∙◌, subst, add-one, true≢false}
+use Rattle.std.proofs.Common.{◌≡◌, ℕ, zero, suc, ◌+◌, Bool, true, false, not, cond, List, [], ◌∷◌, ◌++◌, map, filter, replicate, refl, ap, ◌∙◌, add-one, true≢false}
 use Rattle.row.specs.Cells.{Cells, datum_of, same}
 use Rattle.row.specs.Groups.{equal}
 use Rattle.row.specs.declared.value.Value.{Value}
 use Rattle.partial.specs.States.{State, Hole, Waiting, Filled, state_of, order_of, entry_of, begun, is_hole, OthersStay}
-use Rattle.partial.specs.Sums.{sum_of_bags}
-use Rattle.partial.specs.Truth.{IsTrueOf}
-use Rattle.partial.proofs.Truth.{begin_keeps}
 use Rattle.packet.specs.Keys.{stand_of, stands_of, begin_at}
 use Rattle.packet.specs.Marks.{Gathering, has_come, complete, partly}
-use Rattle.packet.proofs.KeptKeys.{stand_is, begin_is, keys_stay}
+use Rattle.packet.proofs.KeptKeys.{begin_is, keys_stay}
 use Rattle.view_domain.specs.Shown.{rows_at, LeadsTo}
 use Rattle.view_domain.specs.Taken.{asks_by}
-use Rattle.view_domain.proofs.StateSteps.{Store, one_key, leads_same}
+use Rattle.packet.proofs.KeySteps.{Store, one_key}
+use Rattle.view_domain.proofs.StateSteps.{leads_same}
 
 -- ---- requests
 pub asks_more : (tag : ℕ) (done : List Value) (key : Value) → asks_by tag (map datum_of (done ++ key ∷ [])) ≡ asks_by tag (map datum_of done) ++ record { tag = tag; key = datum_of key } ∷ []
@@ -30,13 +28,6 @@ replicate_more n x = ap (λ k. replicate k x) (add-one n) ∙ replicate_last n x
 module _ (old new : Store) (copy key : Value) (is_key : datum_of copy ≡ datum_of key) (n : ℕ) (own : state_of equal new copy ≡ begun n (state_of equal old copy)) (others : OthersStay equal copy old new) (order : order_of new ≡ order_of old) where
   pub begun_is : stands_of new ≡ begin_at n (datum_of key) (stands_of old)
   begun_is = begin_is old new copy others n own order ∙ ap (λ d. begin_at n d (stands_of old)) is_key
-
-  pub begun_true : (k : Value) (parts : List (List Cells)) → length parts ≡ n → IsTrueOf sum_of_bags parts (state_of equal old k) → IsTrueOf sum_of_bags parts (state_of equal new k)
-  begun_true k parts count t = rw (one_key old new copy others (begun n) own k) (step (same (datum_of copy) (datum_of k)))
-    where
-      step : (b : Bool) → IsTrueOf sum_of_bags parts (cond b (begun n (state_of equal old k)) (state_of equal old k))
-      step true = subst (λ m. IsTrueOf sum_of_bags parts (begun m (state_of equal old k))) count (begin_keeps sum_of_bags parts (state_of equal old k) t)
-      step false = t
 
   entry_same : (st : State (List Cells)) → entry_of (begun n st) ≡ entry_of st
   entry_same Hole = refl
@@ -57,14 +48,6 @@ module _ (old new : Store) (copy key : Value) (is_key : datum_of copy ≡ datum_
       step : (b : Bool) (st : State (List Cells)) → cond b st st ≡ st
       step true st = refl
       step false st = refl
-
-hole_at : (st : State (List Cells)) → is_hole (stand_of st) ≡ is_hole st
-hole_at Hole = refl
-hole_at (Waiting pieces) = refl
-hole_at (Filled e) = refl
-
-pub hole_is : (kept : Store) (copy key : Value) → datum_of copy ≡ datum_of key → is_hole ((stands_of kept).at (datum_of key)) ≡ is_hole (state_of equal kept copy)
-hole_is kept copy key e = ap (λ d. is_hole ((stands_of kept).at d)) (sym e) ∙ (ap is_hole (stand_is kept copy) ∙ hole_at (state_of equal kept copy))
 
 -- ---- markers
 pub none_come : (gs : List Gathering) → complete gs ≡ [] → partly gs ≡ gs

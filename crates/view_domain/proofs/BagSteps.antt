@@ -1,15 +1,9 @@
 -- Rows that are put into a bag one after the other.
-use Rattle.std.proofs.Common.{◌≡◌, List, [], ◌∷◌, ◌++◌, arith}
+use Rattle.std.proofs.Common.{◌≡◌, List}
 use Rattle.row.specs.Cells.{Cells, row_cmp}
 use Rattle.row.specs.CellOrder.{row_total, row_same}
-use Rattle.row.specs.Bags.{sorted, inserted, IsAscending}
-use Rattle.row.proofs.BagLemmas.{one_list, IsAscending-sorted, IsAscending-inserted, times-sorted, times-inserted, times-append}
-
--- a row more
-pub sorted_more : (rows : List Cells) (x : Cells) → inserted row_cmp x (sorted row_cmp rows) ≡ sorted row_cmp (rows ++ x ∷ [])
-sorted_more rows x =
-    one_list row_cmp row_total row_same (inserted row_cmp x (sorted row_cmp rows)) (sorted row_cmp (rows ++ x ∷ [])) (IsAscending-inserted row_cmp row_total x (sorted row_cmp rows) (IsAscending-sorted row_cmp row_total rows)) (IsAscending-sorted row_cmp row_total (rows ++ x ∷ []))
-    (λ z. omega (arith, times-inserted row_cmp z x (sorted row_cmp rows), times-sorted row_cmp z rows, times-sorted row_cmp z (rows ++ x ∷ []), times-append row_cmp z rows (x ∷ [])))
+use Rattle.row.specs.Bags.{sorted, IsAscending}
+use Rattle.row.proofs.BagLemmas.{one_list, IsAscending-sorted, times-sorted}
 
 -- rows in order are the bag of them
 pub sorted_same : (rows : List Cells) → IsAscending row_cmp rows → sorted row_cmp rows ≡ rows

@@ -1,40 +1,18 @@
 -- The records of keys: one key, and what is left to do.
-use Rattle.std.proofs.Common.{◌≡◌, ℕ, zero, suc, Bool, true, false, cond, ◌||◌, ◌++◌, List, [], ◌∷◌, map, Option, Some, None, slice_get, is_some, refl, ap, sym, ◌∙◌, subst, true≢false, Bor}
-use Rattle.std.specs.Prelude.{⊤}
-use Rattle.std.specs.List.{IsDistinct, AllByRecursion}
-use Rattle.std.specs.Map.{lookup, keys_of}
-use Rattle.std.specs.Option.{option_map, option_copied}
-use Rattle.std.proofs.lemmas.Map.Keys.{IsDistinct-head, IsDistinct-tail}
-use Rattle.row.specs.Bags.{Each}
+use Rattle.std.proofs.Common.{◌≡◌, ℕ, Bool, true, false, cond, ◌++◌, List, [], ◌∷◌, Option, Some, None, is_some, refl, ap, sym, ◌∙◌, true≢false}
+use Rattle.std.specs.Option.{option_map}
 use Rattle.row.specs.BagChanges.{with_records}
-use Rattle.row.specs.Cells.{Datum, Cells, datum_of, same}
+use Rattle.row.specs.Cells.{Cells}
 use Rattle.row.specs.Changes.{IsCovered}
 use Rattle.row.specs.Groups.{equal}
 use Rattle.row.specs.declared.record.Record.{Record}
 use Rattle.row.specs.declared.value.Value.{Value}
-use Rattle.row.proofs.Cellwise.{eq-value_is}
-use Rattle.row.proofs.Keys.{value_equivalence, same_flip}
-use Rattle.row.proofs.Shards.{same_is, same_self}
-use Rattle.partial.specs.States.{State, Hole, Waiting, Filled, state_of, entry_of, order_of, after_change, piece_changed, ChangeFits, OthersStay}
-use Rattle.packet.specs.Keys.{stand_of, stands_of, is_among}
-use Rattle.packet.proofs.KeptKeys.{keys_stay}
+use Rattle.partial.specs.States.{State, Hole, Waiting, Filled, state_of, entry_of, after_change, ChangeFits, OthersStay}
 use Rattle.view_domain.specs.declared.shown.KeyChange.{KeyChange}
 use Rattle.view_domain.specs.declared.shown.KeyChange.TheVariants.{Turns}
-use Rattle.view_domain.specs.Groups.{KeyedRecords, or_empty, records_at, names_of}
 use Rattle.view_domain.specs.Shown.{FitsShown, LeadsTo}
-use Rattle.view_domain.specs.Taken.{changed_by}
-use Rattle.view_domain.proofs.StateSteps.{Store, state_same, one_key, leads_push, leads_same}
-
--- ---- a change that is held in something
-module _ {C D : Type 0} (f : C → D) (plus : List Cells → D → List Cells) where
-  pub after_items : (s : ℕ) (c : C) (st : State (List Cells)) → after_change (λ b x. plus b (f x)) s c st ≡ after_change plus s (f c) st
-  after_items s c Hole = refl
-  after_items s c (Filled e) = refl
-  after_items s c (Waiting pieces) = step (slice_get pieces s)
-    where
-      step : (place : Option (Option (List Cells))) → Waiting (piece_changed (λ b x. plus b (f x)) c s pieces place) ≡ Waiting (piece_changed plus (f c) s pieces place)
-      step None = refl
-      step (Some place) = refl
+use Rattle.packet.proofs.KeySteps.{Store}
+use Rattle.view_domain.proofs.StateSteps.{leads_push, leads_same}
 
 -- ---- one key
 entry_after : (s : ℕ) (records : List Record) (st : State (List Cells)) → entry_of (after_change with_records s records st) ≡ option_map (λ e. with_records e records) (entry_of st)
@@ -71,93 +49,3 @@ leads_changed first cs told key old new s records shown fit state others test is
     step false e =
         let gone : entry_of (state_of equal old key) ≡ None = none_before (λ e. with_records e records) (entry_of (state_of equal old key)) (ap is_some (sym turn) ∙ (sym test ∙ e)) in
         rw (is, e) (leads_same old new key others first cs (turn ∙ (ap (option_map (λ e. with_records e records)) gone ∙ sym gone)) h)
-
-pub copied_some : {X : Type 0} (o : Option (Bor X)) → is_some o ≡ is_some (option_copied o)
-copied_some None = refl
-copied_some (Some x) = refl
-
--- ---- the keys that are left
--- the records of a group can be taken in at its key
-abbrev pub FitsAt : ℕ → Store → Value × List Record → Type 0
-FitsAt s kept g = ChangeFits IsCovered s g.1 (state_of equal kept g.0)
-
-named_apart : (key : Value) (es : KeyedRecords) (d : Datum) → AllByRecursion (λ y. equal key y ≡ false) (keys_of es) → is_among (names_of es) d ≡ true → same (datum_of key) d ≡ false
-named_apart key [] d a h = absurd (true≢false (sym h))
-named_apart key (e ∷ es) d a h = step (same (datum_of e.0) d) refl h (named_apart key es d a.1)
-  where
-    step : (b : Bool) → same (datum_of e.0) d ≡ b → (b || is_among (names_of es) d) ≡ true → (is_among (names_of es) d ≡ true → same (datum_of key) d ≡ false) → same (datum_of key) d ≡ false
-    step true q n rest = subst (λ x. same (datum_of key) x ≡ false) (same_is (datum_of e.0) d q) (sym (eq-value_is key e.0) ∙ a.0)
-    step false q n rest = rest n
-
-fits_at : (s : ℕ) (kept : Store) (groups : KeyedRecords) → IsDistinct equal (keys_of groups)
-    → ((k : Value) → is_among (names_of groups) (datum_of k) ≡ true → ChangeFits IsCovered s (records_at groups (datum_of k)) (state_of equal kept k)) → Each (FitsAt s kept) groups
-fits_at s kept [] distinct h = tt
-fits_at s kept (e ∷ es) distinct h =
-    let self = same_self (datum_of e.0) in (
-      subst (λ b. ChangeFits IsCovered s (or_empty (cond b (Some e.1) (lookup (λ y. same (datum_of e.0) (datum_of y)) es))) (state_of equal kept e.0)) self (h e.0 (ap (λ b. b || is_among (names_of es) (datum_of e.0)) self)),
-      fits_at s kept es (IsDistinct-tail equal e.0 (keys_of es) distinct) (λ k n. later k n (named_apart e.0 es (datum_of k) (IsDistinct-head equal e.0 (keys_of es) distinct) n)),
-    )
-  where
-    later : (k : Value) → is_among (names_of es) (datum_of k) ≡ true → same (datum_of e.0) (datum_of k) ≡ false → ChangeFits IsCovered s (records_at es (datum_of k)) (state_of equal kept k)
-    later k n apart =
-        subst (λ b. ChangeFits IsCovered s (or_empty (cond b (Some e.1) (lookup (λ y. same (datum_of k) (datum_of y)) es))) (state_of equal kept k)) (same_flip (datum_of k) (datum_of e.0) ∙ apart)
-        (h k (ap (λ b. b || is_among (names_of es) (datum_of k)) apart ∙ n))
-
-pub all_fit : (s : ℕ) (kept : Store) (groups items : KeyedRecords) → groups ≡ items → IsDistinct equal (keys_of groups)
-    → ((k : Value) → is_among (names_of groups) (datum_of k) ≡ true → ChangeFits IsCovered s (records_at groups (datum_of k)) (state_of equal kept k)) → Each (FitsAt s kept) items
-all_fit s kept groups items e distinct h = subst (Each (FitsAt s kept)) e (fits_at s kept groups distinct h)
-
-absent : {X : Type 0} (key : Value) (es : List (Value × X)) → AllByRecursion (λ y. equal key y ≡ false) (keys_of es) → lookup (equal key) es ≡ None
-absent key [] h = refl
-absent key (e ∷ es) h = rw h.0 (absent key es h.1)
-
-lookup_same : {X : Type 0} (key k : Value) (xs : List (Value × X)) → equal key k ≡ true → lookup (equal k) xs ≡ lookup (equal key) xs
-lookup_same key k [] h = refl
-lookup_same key k (x ∷ xs) h = rw (value_equivalence.congr key k x.0 h) (ap (cond (equal k x.0) (Some x.1)) (lookup_same key k xs h))
-
-module _ (source : ℕ) (mid new : Store) (key : Value) (records : List Record) (rest : KeyedRecords) (distinct : IsDistinct equal (keys_of ((key, records) ∷ rest))) (others : OthersStay equal key mid new) where
-  each_other : (es : KeyedRecords) → AllByRecursion (λ y. equal key y ≡ false) (keys_of es) → Each (FitsAt source mid) es → Each (FitsAt source new) es
-  each_other [] a h = tt
-  each_other (e ∷ es) a h = (subst (ChangeFits IsCovered source e.1) (sym (others e.0 a.0)) h.0, each_other es a.1 h.1)
-
-  pub rest_fits : Each (FitsAt source mid) rest → Each (FitsAt source new) rest
-  rest_fits h = each_other rest (IsDistinct-head equal key (keys_of rest) distinct) h
-
-  pub rest_changed : state_of equal new key ≡ after_change with_records source records (state_of equal mid key)
-      → (k : Value) → changed_by source (lookup (equal k) ((key, records) ∷ rest)) (state_of equal mid k) ≡ changed_by source (lookup (equal k) rest) (state_of equal new k)
-  rest_changed applied k = step (equal k key) refl
-    where
-      step : (b : Bool) → equal k key ≡ b → changed_by source (cond b (Some records) (lookup (equal k) rest)) (state_of equal mid k) ≡ changed_by source (lookup (equal k) rest) (state_of equal new k)
-      step true e =
-          let back = sym (value_equivalence.symm k key) ∙ e in
-          let gone : lookup (equal k) rest ≡ None = lookup_same key k rest back ∙ absent key rest (IsDistinct-head equal key (keys_of rest) distinct) in
-          rw gone (ap (after_change with_records source records) (sym (state_same mid key k back)) ∙ (sym applied ∙ state_same new key k back))
-      step false e = ap (changed_by source (lookup (equal k) rest)) (sym (others k (sym (value_equivalence.symm k key) ∙ e)))
-
--- keys stand as they did
-abbrev blank : List (Option (List Cells)) → List (Option ⊤)
-blank pieces = map (option_map (λ p. tt)) pieces
-
-blank_changed : (records : List Record) (pieces : List (Option (List Cells))) (s : ℕ) → blank (piece_changed with_records records s pieces (slice_get pieces s)) ≡ blank pieces
-blank_changed records [] s = refl
-blank_changed records (None ∷ ps) zero = refl
-blank_changed records (Some p ∷ ps) zero = refl
-blank_changed records (o ∷ ps) (suc s) = step (slice_get ps s) (blank_changed records ps s)
-  where
-    step : (place : Option (Option (List Cells))) → blank (piece_changed with_records records s ps place) ≡ blank ps → blank (piece_changed with_records records (suc s) (o ∷ ps) place) ≡ blank (o ∷ ps)
-    step None h = refl
-    step (Some place) h = ap (λ bs. option_map (λ p. tt) o ∷ bs) h
-
-stays_by : (s : ℕ) (o : Option (List Record)) (st : State (List Cells)) → stand_of (changed_by s o st) ≡ stand_of st
-stays_by s None st = refl
-stays_by s (Some records) Hole = refl
-stays_by s (Some records) (Filled e) = refl
-stays_by s (Some records) (Waiting pieces) = ap Waiting (blank_changed records pieces s)
-
-pub changed_stands : (s : ℕ) (key : Value) (records : List Record) (old new : Store) → state_of equal new key ≡ after_change with_records s records (state_of equal old key) → OthersStay equal key old new → order_of new ≡ order_of old
-    → stands_of new ≡ stands_of old
-changed_stands s key records old new state others order = keys_stay old new (λ k. ap stand_of (one_key old new key others (after_change with_records s records) state k) ∙ step (state_of equal old k) (same (datum_of key) (datum_of k))) order
-  where
-    step : (st : State (List Cells)) (b : Bool) → stand_of (cond b (after_change with_records s records st) st) ≡ stand_of st
-    step st true = stays_by s (Some records) st
-    step st false = refl

@@ -30,7 +30,7 @@ use Rattle.view_domain.specs.Received.{GoesOn, IsDone, IsNextLine, IsShown}
 use Rattle.view_domain.specs.declared.shown.KeyChange.{KeyChange}
 use Rattle.view_domain.specs.Shown.{rows_at, LeadsTo}
 use Rattle.packet.specs.Readers.{tag_of}
-use Rattle.view_domain.proofs.StateSteps.{Store}
+use Rattle.packet.proofs.KeySteps.{Store}
 
 -- ---- shares
 parts_count : (p : Layout) (a : ℕ) (cut : List Line) (i : ℕ) (k : Datum) → length (parts p a cut i k) ≡ length cut

@@ -1,4 +1,3 @@
-mod GroupSteps
 mod StateSteps
 mod EvictSteps
 mod BagSteps

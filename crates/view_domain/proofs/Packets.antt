@@ -41,12 +41,12 @@ use Rattle.view_domain.specs.Outboxes.{OutboxView, ShownView, new_line, put_line
 use Rattle.view_domain.specs.Shown.{rows_at, LeadsTo}
 use Rattle.view_domain.specs.declared.shown.KeyChange.{KeyChange}
 use Rattle.view_domain.specs.Received.{IsDone, IsNextLine, IsShown}
-use Rattle.view_domain.specs.Groups.{named_in}
+use Rattle.packet.specs.Groups.{named_in}
 use Rattle.view_domain.specs.Taken.{IsStepOf, IsPieceFor, asks_by}
 use Rattle.view_domain.proofs.AskSteps.{still_waiting}
 use Rattle.view_domain.proofs.BagSteps.{sorted_twice}
 use Rattle.view_domain.proofs.TakeSteps.{set_same}
-use Rattle.view_domain.proofs.StateSteps.{Store}
+use Rattle.packet.proofs.KeySteps.{Store}
 
 -- ---- lines of the same logs
 one_log : (are_one : LogView → LogView → Type 0) (p : Layout) (b : ℕ) (l t : LogView) → IsOf p b l → IsOf p b t → GoesWith are_one l t.entries → are_one l t

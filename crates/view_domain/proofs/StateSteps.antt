@@ -1,47 +1,23 @@
 -- What is kept at each key after a call that changes one.
 use Rattle.std.proofs.Common.{◌≡◌, ℕ, zero, suc, Bool, true, false, cond, ◌++◌, List, [], ◌∷◌, Option, Some, None, map, slice_get, refl, ap, sym, ◌∙◌, subst}
 use Rattle.std.specs.Prelude.{⊤}
-use Rattle.std.specs.Map.{lookup}
 use Rattle.std.proofs.lemmas.List.{append-nil}
 use Rattle.std.specs.Option.{option_map}
-use Rattle.row.specs.Cells.{Datum, Cells, datum_of, same}
+use Rattle.row.specs.Cells.{Datum, Cells, datum_of}
 use Rattle.row.specs.Groups.{equal}
 use Rattle.row.specs.declared.value.Value.{Value}
-use Rattle.row.proofs.Cellwise.{eq-value_is}
-use Rattle.row.proofs.Keys.{equal_is}
-use Rattle.partial.specs.States.{State, Hole, Waiting, Filled, Kept, state_of, state_from, entry_of, evicted, says_evicted, is_here, OthersStay}
+use Rattle.partial.specs.States.{State, Hole, Waiting, Filled, state_of, entry_of, evicted, says_evicted, is_here, OthersStay}
 use Rattle.partial.specs.declared.partial.Evicted.{Evicted}
 use Rattle.partial.specs.declared.partial.Evicted.TheVariants as said
 use Rattle.packet.specs.Keys.{stand_of, stands_of, has_piece}
+use Rattle.packet.proofs.KeySteps.{Store, state_same}
 use Rattle.packet.proofs.KeptKeys.{stand_is}
 use Rattle.protocol.specs.ViewSteps.{again}
 use Rattle.view_domain.specs.declared.shown.KeyChange.{KeyChange}
 use Rattle.view_domain.specs.declared.shown.KeyChange.TheVariants.{Goes}
 use Rattle.view_domain.specs.Shown.{key_in, turned, shown_after, FitsShown, FitAll, rows_at, gone_by, asked_by, LeadsTo}
 
-abbrev pub Store : Type 0
-Store = Kept Value (List Cells)
-
-abbrev State-at : Store → Datum → State (List Cells)
-State-at kept d = state_from (lookup (λ y. same d (datum_of y)) kept.waiting) (lookup (λ y. same d (datum_of y)) kept.filled)
-
-state_is : (kept : Store) (key : Value) → state_of equal kept key ≡ State-at kept (datum_of key)
-state_is kept key = λ i. state_from (lookup (λ y. eq-value_is key y i) kept.waiting) (lookup (λ y. eq-value_is key y i) kept.filled)
-
--- equal values have the same
-pub state_same : (kept : Store) (x y : Value) → equal x y ≡ true → state_of equal kept x ≡ state_of equal kept y
-state_same kept x y h = state_is kept x ∙ (ap (State-at kept) (equal_is x y h) ∙ sym (state_is kept y))
-
 module _ (old new : Store) (key : Value) (others : OthersStay equal key old new) where
-  -- the key's state is changed by f, all others stay
-  pub one_key : (f : State (List Cells) → State (List Cells)) → state_of equal new key ≡ f (state_of equal old key)
-      → (k : Value) → state_of equal new k ≡ cond (same (datum_of key) (datum_of k)) (f (state_of equal old k)) (state_of equal old k)
-  one_key f own k = rw (← eq-value_is key k) (step (equal key k) refl)
-    where
-      step : (b : Bool) → equal key k ≡ b → state_of equal new k ≡ cond b (f (state_of equal old k)) (state_of equal old k)
-      step true e = sym (state_same new key k e) ∙ (own ∙ ap f (state_same old key k e))
-      step false e = others k e
-
   -- what was shown leads there, where no entry has changed
   pub leads_same : (first : Value → Option (List Cells)) (cs : List KeyChange) → entry_of (state_of equal new key) ≡ entry_of (state_of equal old key) → LeadsTo first cs old → LeadsTo first cs new
   leads_same first cs stays h = record { each = λ k. step k (equal key k) refl ∙ h.each k; fits = h.fits }

@@ -18,10 +18,10 @@ use Rattle.partial.proofs.Truth.{evict_keeps, change_keeps}
 use Rattle.packet.specs.Keys.{is_among}
 use Rattle.packet.specs.Messages.{KeyedRecord}
 use Rattle.packet.specs.Truth.{changes_at}
-use Rattle.view_domain.specs.Groups.{KeyedRecords, or_empty, records_at, names_of, named_in}
-use Rattle.view_domain.specs.Taken.{evicted_all, changed_by, IsStepOf}
-use Rattle.view_domain.proofs.GroupSteps.{by_datum}
-use Rattle.view_domain.proofs.StateSteps.{Store}
+use Rattle.packet.specs.Groups.{KeyedRecords, or_empty, records_at, names_of, named_in, changed_by}
+use Rattle.view_domain.specs.Taken.{evicted_all, IsStepOf}
+use Rattle.packet.proofs.GroupSteps.{by_datum}
+use Rattle.packet.proofs.KeySteps.{Store}
 
 set_twice : {X : Type 0} (xs : List X) (i : ℕ) (x : X) → slice_set (slice_set xs i x) i x ≡ slice_set xs i x
 set_twice [] i x = refl

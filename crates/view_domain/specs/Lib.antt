@@ -1,4 +1,3 @@
-pub mod Groups
 pub mod Shown
 pub mod Taken
 pub mod Outboxes

@@ -10,18 +10,13 @@ use Rattle.row.specs.Groups.{equal}
 use Rattle.packet.specs.Keys.{Ascends, is_among}
 use Rattle.packet.specs.Messages.{Ask, KeyedRecord, Piece}
 use Rattle.packet.specs.Truth.{changes_at}
-use Rattle.partial.specs.States.{State, Kept, ChangeFits, evicted, after_change, state_of}
-use Rattle.view_domain.specs.Groups.{named_in}
+use Rattle.partial.specs.States.{State, Kept, ChangeFits, evicted, state_of}
+use Rattle.packet.specs.Groups.{named_in}
 
 -- at key k, after source s has evicted these keys
 abbrev pub evicted_all : ℕ → List Datum → Datum → State (List Cells) → State (List Cells)
 evicted_all s [] k st = st
 evicted_all s (x ∷ xs) k st = evicted_all s xs k (cond (same x k) (evicted (Some s) st) st)
-
--- after the records of source s, if there are some of the key
-abbrev pub changed_by : ℕ → Option (List Record) → State (List Cells) → State (List Cells)
-changed_by s None st = st
-changed_by s (Some records) st = after_change with_records s records st
 
 -- what is kept may take this of source s: each key is evicted once, in order, no record is of such a key, and the records of each key fit it
 pub record MayTake (s : ℕ) (evicts : List Datum) (changes : List KeyedRecord) (kept : Kept Value (List Cells)) : Type 0 where

@@ -11,12 +11,12 @@ ghost use Rattle.partial.specs.Sums.{sum_of_bags};
 ghost use Rattle.partial.specs.Truth.{IsTrueOf};
 ghost use Rattle.packet.specs.Keys.{Ascends, is_among, stands_of, open_at, drop_at, give_at};
 ghost use Rattle.protocol.specs.ViewSteps.{drop_all, again, capped, oldest_open};
-ghost use Rattle.view_domain.specs.Groups.{names_of, records_at};
+ghost use Rattle.packet.specs.Groups.{names_of, records_at, changed_by};
 ghost use Rattle.view_domain.specs.Shown.{rows_at, LeadsTo, gone_by, asked_by};
-ghost use Rattle.view_domain.specs.Taken.{evicted_all, changed_by};
+ghost use Rattle.view_domain.specs.Taken.{evicted_all};
 
-use crate::groups::{Group, Groups};
 use crate::shown::KeyChange;
+use packet::groups::{Group, Groups};
 use partial::partial::{Evicted, Partial};
 use row::bag::Bag;
 use row::value::Value;

@@ -2,8 +2,6 @@
 #![tactic(auto)]
 
 mod asks;
-mod bags;
-pub mod groups;
 pub mod keys;
 pub mod message;
 pub mod outbox;

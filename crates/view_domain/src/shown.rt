@@ -4,8 +4,8 @@ ghost use Rattle.std.specs.Option.{option_map};
 ghost use Rattle.model.specs.Queries.{Line as LineView};
 ghost use Rattle.view_domain.specs.Outboxes.{asked_after, cut_after, keys_told, line_told, put_line};
 
-use crate::groups::Group;
 use model::fronts::Fronts;
+use packet::groups::Group;
 use packet::line::Line;
 use row::bag::Bag;
 use row::value::Value;

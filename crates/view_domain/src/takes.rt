@@ -12,12 +12,12 @@ ghost use Rattle.protocol.specs.ViewSteps.{again, capped, drop_all, give_piece};
 ghost use Rattle.view_domain.specs.Shown.{LeadsTo, rows_at};
 ghost use Rattle.view_domain.specs.Taken.{IsStepOf, IsPieceFor, MayTake};
 
-use crate::bags::bag_of;
-use crate::groups::grouped;
 use crate::keys::{cap_keys, change_keys, evict_keys, fill_key};
 use crate::shown::KeyChange;
+use packet::groups::grouped;
 use packet::keyed::Keyed;
 use packet::piece::Piece;
+use partial::bags::bag_of;
 use partial::partial::Partial;
 use row::bag::Bag;
 use row::value::Value;

@@ -1,5 +1,6 @@
 use Rattle.std.proofs.Common.{◌∙◌, sym}
-use Rattle.view_domain.proofs.AskSteps.{begun_is, idle_is, hole_is}
+use Rattle.packet.proofs.KeySteps.{hole_is}
+use Rattle.view_domain.proofs.AskSteps.{begun_is, idle_is}
 use Rattle.view_domain.proofs.asks.begin_key.Goals as goal
 
 pub returns-then-not-branch-clause-hole : goal.returns-then-not-branch-clause-hole

@@ -4,7 +4,9 @@ use Rattle.std.specs.Option.{is_some}
 use Rattle.row.specs.BagChanges.{with_records}
 use Rattle.row.specs.Groups.{equal}
 use Rattle.partial.specs.States.{state_of, after_change}
-use Rattle.view_domain.proofs.ChangeSteps.{after_items, leads_changed, changed_stands, copied_some}
+use Rattle.packet.proofs.GroupChanges.{after_items, changed_stands}
+use Rattle.packet.proofs.KeySteps.{copied_some}
+use Rattle.view_domain.proofs.ChangeSteps.{leads_changed}
 use Rattle.view_domain.proofs.keys.change_key.Goals as goal
 
 pub returns-clause-shown : goal.returns-clause-shown

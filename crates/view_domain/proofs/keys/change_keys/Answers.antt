@@ -5,8 +5,8 @@ use Rattle.std.proofs.lemmas.Map.Keys.{IsDistinct-tail}
 use Rattle.row.specs.Bags.{Each}
 use Rattle.row.specs.Groups.{equal}
 use Rattle.partial.specs.States.{state_of}
-use Rattle.view_domain.specs.Taken.{changed_by}
-use Rattle.view_domain.proofs.ChangeSteps.{FitsAt, all_fit, rest_fits, rest_changed}
+use Rattle.packet.specs.Groups.{changed_by}
+use Rattle.packet.proofs.GroupChanges.{FitsAt, all_fit, rest_fits, rest_changed}
 use Rattle.view_domain.proofs.keys.change_keys.Goals as goal
 
 pub loop-key-init : goal.loop-key-init

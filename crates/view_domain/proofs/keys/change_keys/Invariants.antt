@@ -8,8 +8,8 @@ use Rattle.row.specs.declared.value.Value.{Value}
 use Rattle.partial.specs.States.{state_of}
 use Rattle.packet.specs.Keys.{stands_of}
 use Rattle.view_domain.specs.Shown.{LeadsTo}
-use Rattle.view_domain.specs.Taken.{changed_by}
-use Rattle.view_domain.proofs.ChangeSteps.{FitsAt}
+use Rattle.packet.specs.Groups.{changed_by}
+use Rattle.packet.proofs.GroupChanges.{FitsAt}
 use Rattle.view_domain.proofs.keys.change_keys.Given as goal
 
 abbrev pub invariant-loop-key : goal.invariant-loop-key

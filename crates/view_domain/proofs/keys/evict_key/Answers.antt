@@ -3,7 +3,8 @@ use Rattle.std.proofs.lemmas.Result.{on_ok_weaker}
 use Rattle.row.specs.Cells.{datum_of}
 use Rattle.partial.specs.States.{evicted}
 use Rattle.packet.proofs.KeptKeys.{evict_is}
-use Rattle.view_domain.proofs.StateSteps.{one_key, leads_evicted, asked_again}
+use Rattle.packet.proofs.KeySteps.{one_key}
+use Rattle.view_domain.proofs.StateSteps.{leads_evicted, asked_again}
 use Rattle.view_domain.proofs.keys.evict_key.Goals as goal
 
 pub returns-clause-stands : goal.returns-clause-stands

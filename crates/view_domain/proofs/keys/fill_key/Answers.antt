@@ -3,7 +3,8 @@ use Rattle.row.specs.Groups.{equal}
 use Rattle.partial.specs.States.{entry_of, state_of}
 use Rattle.partial.specs.Sums.{sum_of_bags}
 use Rattle.packet.proofs.KeptKeys.{give_is}
-use Rattle.view_domain.proofs.FillSteps.{always, piece_true, piece_some, piece_same}
+use Rattle.packet.proofs.KeySteps.{piece_true}
+use Rattle.view_domain.proofs.FillSteps.{always, piece_some, piece_same}
 use Rattle.view_domain.proofs.keys.fill_key.Goals as goal
 
 pub returns-clause-stands : goal.returns-clause-stands

@@ -2,7 +2,7 @@ use Rattle.std.proofs.Common.{None}
 use Rattle.std.proofs.lemmas.Result.{on_ok_weaker}
 use Rattle.packet.proofs.KeptKeys.{evict_is}
 use Rattle.view_domain.proofs.StateSteps.{leads_evicted}
-use Rattle.view_domain.proofs.FillSteps.{opened_true}
+use Rattle.packet.proofs.KeySteps.{opened_true}
 use Rattle.view_domain.proofs.keys.open_key.Goals as goal
 
 pub returns-clause-stands : goal.returns-clause-stands

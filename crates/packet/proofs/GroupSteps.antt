@@ -13,7 +13,7 @@ use Rattle.indexmap.proofs.CallerLemmas.{insert_entry-new}
 use Rattle.packet.specs.Keys.{is_among}
 use Rattle.packet.specs.Messages.{KeyedRecord}
 use Rattle.packet.specs.Truth.{changes_at}
-use Rattle.view_domain.specs.Groups.{KeyedRecords, or_empty, records_at, names_of, named_in}
+use Rattle.packet.specs.Groups.{KeyedRecords, or_empty, records_at, names_of, named_in}
 
 pub by_datum : {X : Type 0} (key : Value) (xs : List (Value × X)) → lookup (equal key) xs ≡ lookup (λ y. same (datum_of key) (datum_of y)) xs
 by_datum key xs = λ i. lookup (λ y. eq-value_is key y i) xs

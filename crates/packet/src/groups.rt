@@ -5,12 +5,12 @@ ghost use Rattle.std.specs.Map.{keys_of};
 ghost use Rattle.row.specs.Cells.{Datum, datum_of, same};
 ghost use Rattle.row.specs.Groups.{equal};
 ghost use Rattle.packet.specs.Keys.{is_among};
-ghost use Rattle.view_domain.specs.Groups.{records_at, names_of, named_in};
+ghost use Rattle.packet.specs.Groups.{records_at, names_of, named_in};
 ghost use Rattle.packet.specs.Truth.{changes_at};
 
+use crate::keyed::Keyed;
 use indexmap::IndexMap;
 use indexmap::map::IntoIter;
-use packet::keyed::Keyed;
 use row::record::Record;
 use row::value::Value;
 use std::alloc::{AllocError, Global};
@@ -64,7 +64,7 @@ pub struct Groups {
 }
 
 impl Model for Groups {
-    ghost use Rattle.view_domain.specs.Groups.{KeyedRecords};
+    ghost use Rattle.packet.specs.Groups.{KeyedRecords};
 
     ghost Value = { KeyedRecords };
 

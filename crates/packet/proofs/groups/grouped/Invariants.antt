@@ -2,8 +2,8 @@ use Rattle.std.proofs.Common.{◌≡◌}
 use Rattle.row.specs.Cells.{Datum}
 use Rattle.packet.specs.Keys.{is_among}
 use Rattle.packet.specs.Truth.{changes_at}
-use Rattle.view_domain.specs.Groups.{records_at, names_of, named_in}
-use Rattle.view_domain.proofs.groups.grouped.Given as goal
+use Rattle.packet.specs.Groups.{records_at, names_of, named_in}
+use Rattle.packet.proofs.groups.grouped.Given as goal
 
 abbrev pub invariant-loop-keyed : goal.invariant-loop-keyed
 invariant-loop-keyed l = record {

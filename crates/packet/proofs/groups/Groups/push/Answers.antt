@@ -1,8 +1,8 @@
 use Rattle.std.proofs.Common.{sym, ap}
 use Rattle.std.proofs.lemmas.Result.{on_ok_weaker}
-use Rattle.view_domain.proofs.GroupSteps.{known_records, known_names, new_records, new_names}
-use Rattle.view_domain.proofs.groups.Groups.push.Goals as goal
-use Rattle.view_domain.proofs.groups.Groups.push.Goals.{in-Text-2, in-Int-2}
+use Rattle.packet.proofs.GroupSteps.{known_records, known_names, new_records, new_names}
+use Rattle.packet.proofs.groups.Groups.push.Goals as goal
+use Rattle.packet.proofs.groups.Groups.push.Goals.{in-Text-2, in-Int-2}
 
 pub returns-in-Some-clause-records : goal.returns-in-Some-clause-records
 returns-in-Some-clause-records c = elim c.match-key.branch [

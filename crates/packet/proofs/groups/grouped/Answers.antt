@@ -1,5 +1,5 @@
-use Rattle.view_domain.proofs.GroupSteps.{records_next, names_next}
-use Rattle.view_domain.proofs.groups.grouped.Goals as goal
+use Rattle.packet.proofs.GroupSteps.{records_next, names_next}
+use Rattle.packet.proofs.groups.grouped.Goals as goal
 
 pub loop-keyed-preserved : goal.loop-keyed-preserved
 loop-keyed-preserved c = record {
