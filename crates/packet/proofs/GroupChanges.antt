@@ -1,5 +1,5 @@
 -- The records of keys: what is left to do, and how keys then stand.
-use Rattle.std.proofs.Common.{◌≡◌, ℕ, zero, suc, Bool, true, false, cond, ◌||◌, List, [], ◌∷◌, map, Option, Some, None, slice_get, refl, ap, sym, ◌∙◌, subst, true≢false}
+use Rattle.std.proofs.Common.{◌≡◌, ℕ, zero, suc, Bool, true, false, cond, ◌||◌, List, [], ◌∷◌, map, Option, Some, None, slice_get, Result, Ok, Err, OnOk, OnErr, refl, ap, sym, ◌∙◌, subst, true≢false}
 use Rattle.std.specs.Prelude.{⊤}
 use Rattle.std.specs.List.{IsDistinct, AllByRecursion}
 use Rattle.std.specs.Map.{lookup, keys_of}
@@ -45,23 +45,23 @@ named_apart key (e ∷ es) d a h = step (same (datum_of e.0) d) refl h (named_ap
     step true q n rest = subst (λ x. same (datum_of key) x ≡ false) (same_is (datum_of e.0) d q) (sym (eq-value_is key e.0) ∙ a.0)
     step false q n rest = rest n
 
-fits_at : (s : ℕ) (kept : Store) (groups : KeyedRecords) → IsDistinct equal (keys_of groups)
-    → ((k : Value) → is_among (names_of groups) (datum_of k) ≡ true → ChangeFits IsCovered s (records_at groups (datum_of k)) (state_of equal kept k)) → Each (FitsAt s kept) groups
-fits_at s kept [] distinct h = tt
-fits_at s kept (e ∷ es) distinct h =
+-- what holds of the records of each key that has a group holds of each group
+pub each_group : (P : Value → List Record → Type 0) (groups : KeyedRecords) → IsDistinct equal (keys_of groups) → ((k : Value) → is_among (names_of groups) (datum_of k) ≡ true → P k (records_at groups (datum_of k))) → Each (λ (g : Value × List Record). P g.0 g.1) groups
+each_group P [] distinct h = tt
+each_group P (e ∷ es) distinct h =
     let self = same_self (datum_of e.0) in (
-      subst (λ b. ChangeFits IsCovered s (or_empty (cond b (Some e.1) (lookup (λ y. same (datum_of e.0) (datum_of y)) es))) (state_of equal kept e.0)) self (h e.0 (ap (λ b. b || is_among (names_of es) (datum_of e.0)) self)),
-      fits_at s kept es (IsDistinct-tail equal e.0 (keys_of es) distinct) (λ k n. later k n (named_apart e.0 es (datum_of k) (IsDistinct-head equal e.0 (keys_of es) distinct) n)),
+      subst (λ b. P e.0 (or_empty (cond b (Some e.1) (lookup (λ y. same (datum_of e.0) (datum_of y)) es)))) self (h e.0 (ap (λ b. b || is_among (names_of es) (datum_of e.0)) self)),
+      each_group P es (IsDistinct-tail equal e.0 (keys_of es) distinct) (λ k n. later k n (named_apart e.0 es (datum_of k) (IsDistinct-head equal e.0 (keys_of es) distinct) n)),
     )
   where
-    later : (k : Value) → is_among (names_of es) (datum_of k) ≡ true → same (datum_of e.0) (datum_of k) ≡ false → ChangeFits IsCovered s (records_at es (datum_of k)) (state_of equal kept k)
+    later : (k : Value) → is_among (names_of es) (datum_of k) ≡ true → same (datum_of e.0) (datum_of k) ≡ false → P k (records_at es (datum_of k))
     later k n apart =
-        subst (λ b. ChangeFits IsCovered s (or_empty (cond b (Some e.1) (lookup (λ y. same (datum_of k) (datum_of y)) es))) (state_of equal kept k)) (same_flip (datum_of k) (datum_of e.0) ∙ apart)
+        subst (λ b. P k (or_empty (cond b (Some e.1) (lookup (λ y. same (datum_of k) (datum_of y)) es)))) (same_flip (datum_of k) (datum_of e.0) ∙ apart)
         (h k (ap (λ b. b || is_among (names_of es) (datum_of k)) apart ∙ n))
 
 pub all_fit : (s : ℕ) (kept : Store) (groups items : KeyedRecords) → groups ≡ items → IsDistinct equal (keys_of groups)
     → ((k : Value) → is_among (names_of groups) (datum_of k) ≡ true → ChangeFits IsCovered s (records_at groups (datum_of k)) (state_of equal kept k)) → Each (FitsAt s kept) items
-all_fit s kept groups items e distinct h = subst (Each (FitsAt s kept)) e (fits_at s kept groups distinct h)
+all_fit s kept groups items e distinct h = subst (Each (FitsAt s kept)) e (each_group (λ k rs. ChangeFits IsCovered s rs (state_of equal kept k)) groups distinct h)
 
 absent : {X : Type 0} (key : Value) (es : List (Value × X)) → AllByRecursion (λ y. equal key y ≡ false) (keys_of es) → lookup (equal key) es ≡ None
 absent key [] h = refl
@@ -110,10 +110,16 @@ stays_by s (Some records) Hole = refl
 stays_by s (Some records) (Filled e) = refl
 stays_by s (Some records) (Waiting pieces) = ap Waiting (blank_changed records pieces s)
 
-pub changed_stands : (s : ℕ) (key : Value) (records : List Record) (old new : Store) → state_of equal new key ≡ after_change with_records s records (state_of equal old key) → OthersStay equal key old new → order_of new ≡ order_of old
+changed_stands : (s : ℕ) (key : Value) (records : List Record) (old new : Store) → state_of equal new key ≡ after_change with_records s records (state_of equal old key) → OthersStay equal key old new → order_of new ≡ order_of old
     → stands_of new ≡ stands_of old
 changed_stands s key records old new state others order = keys_stay old new (λ k. ap stand_of (one_key old new key others (after_change with_records s records) state k) ∙ step (state_of equal old k) (same (datum_of key) (datum_of k))) order
   where
     step : (st : State (List Cells)) (b : Bool) → stand_of (cond b (after_change with_records s records st) st) ≡ stand_of st
     step st true = stays_by s (Some records) st
     step st false = refl
+
+-- whether it was done, or left as it was
+pub taken_stands : {A E : Type 0} (s : ℕ) (key : Value) (records : List Record) (old new : Store) (r : Result A E) → OnOk r (state_of equal new key ≡ after_change with_records s records (state_of equal old key)) → OthersStay equal key old new → order_of new ≡ order_of old → OnErr r (new ≡ old)
+    → stands_of new ≡ stands_of old
+taken_stands s key records old new (Ok x) state others order err = changed_stands s key records old new state others order
+taken_stands s key records old new (Err x) state others order err = ap stands_of err

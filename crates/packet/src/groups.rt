@@ -1,16 +1,21 @@
 //! Records in groups, one for each key.
-ghost use Rattle.std.specs.Prelude.{◌≡◌, ◌++◌, ◌∷◌, ◌||◌, [], IfOk, OnOk, if◌then◌else◌};
+ghost use Rattle.std.specs.Prelude.{◌≡◌, ◌++◌, ◌∷◌, ◌||◌, [], IfOk, OnOk, OnErr, if◌then◌else◌};
 ghost use Rattle.std.specs.List.{IsDistinct};
 ghost use Rattle.std.specs.Map.{keys_of};
 ghost use Rattle.row.specs.Cells.{Datum, datum_of, same};
+ghost use Rattle.row.specs.BagChanges.{with_records};
+ghost use Rattle.row.specs.Changes.{IsCovered};
 ghost use Rattle.row.specs.Groups.{equal};
-ghost use Rattle.packet.specs.Keys.{is_among};
+ghost use Rattle.partial.specs.States.{ChangeFits, OthersStay, after_change, state_of};
+ghost use Rattle.packet.specs.Keys.{is_among, stands_of};
 ghost use Rattle.packet.specs.Groups.{records_at, names_of, named_in};
 ghost use Rattle.packet.specs.Truth.{changes_at};
 
 use crate::keyed::Keyed;
 use indexmap::IndexMap;
 use indexmap::map::IntoIter;
+use partial::partial::Partial;
+use row::bag::Bag;
 use row::record::Record;
 use row::value::Value;
 use std::alloc::{AllocError, Global};
@@ -47,6 +52,28 @@ impl Group {
     {
         self.records.push(change)?;
         Ok(())
+    }
+
+    /// Applies the records as one change of the part that a source has of the key: a filled key
+    /// takes them, of a gather the piece of the source, where it is here; else they are dropped.
+    /// Errors: memory only; then all is as it was. Cost: a look-up by hash, for a filled key two,
+    /// and for each record that of `Bag::apply`.
+    pub fn apply_at(
+        &self,
+        alloc: Global,
+        kept: &mut Partial<Value, Bag>,
+        source: usize,
+        key: &Value,
+    ) -> Result<(), AllocError>
+        requires { ChangeFits IsCovered source self.now (state_of equal kept.old key.now) }
+        ensures sources { kept.new.sources ≡ kept.old.sources }
+        ensures stands { stands_of kept.new ≡ stands_of kept.old }
+        ensures state { OnOk result (state_of equal kept.new key.now
+            ≡ after_change with_records source self.now (state_of equal kept.old key.now)) }
+        ensures others { OthersStay equal key.now kept.old kept.new }
+        ensures err { OnErr result (kept.new ≡ kept.old) }
+    {
+        kept.apply(alloc, key, source, &self.records)
     }
 
     /// The records in order. Constant time.

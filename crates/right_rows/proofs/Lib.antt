@@ -1,1 +1,4 @@
 mod Filled
+mod Owned
+mod Stands
+mod Taken

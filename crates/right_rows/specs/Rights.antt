@@ -1,13 +1,16 @@
 -- The right rows of a stage shard: those of some stage keys, and the pieces in hand of keys that wait.
-use Rattle.std.specs.Prelude.{◌≡◌, ℕ, true, List, [], ◌∷◌, map, filter, cond, Option, Some, None}
+use Rattle.std.specs.Prelude.{Bool, false, ◌≡◌, ℕ, true, List, [], ◌∷◌, map, filter, cond, Option, Some, None}
 use Rattle.std.specs.Map.{lookup, values_of}
 use Rattle.row.specs.Bags.{Each, IsAscending, joined, sorted}
 use Rattle.row.specs.Cells.{Datum, Cells, datum_of, has, row_cmp, same}
+use Rattle.row.specs.BagChanges.{with_records}
+use Rattle.row.specs.Changes.{IsCovered}
 use Rattle.row.specs.Groups.{equal}
+use Rattle.row.specs.declared.record.Record.{Record}
 use Rattle.row.specs.declared.value.Value.{Value}
 use Rattle.plan.specs.declared.kinds.Aggregate.{Aggregate}
 use Rattle.ops.specs.SideRows.{Rows, fits_64_bits, is_here}
-use Rattle.partial.specs.States.{State, Hole, Waiting, Filled, Kept, state_of, state_from, order_of}
+use Rattle.partial.specs.States.{State, Hole, Waiting, Filled, Kept, ChangeFits, after_change, state_of, state_from, order_of}
 use Rattle.packet.specs.Keys.{by_datum}
 
 -- the column of the stage key, the aggregate that is read of the rows, and what is kept for keys
@@ -56,3 +59,33 @@ pub record AreKeyed (column : ℕ) (aggregate : Option Aggregate) (kept : Kept V
 -- what is kept at a key, by what a stage reads: the rows of a key that is here are those that have it in the column
 abbrev pub state_in : Rows → Datum → State (List Cells)
 state_in i k = state_from (lookup (same k) i.waiting) (cond (is_here i k) (Some (filter (has i.column k) i.rows)) None)
+
+-- what is kept at k, changed by f where k is the key
+abbrev pub only_at : Datum → (State (List Cells) → State (List Cells)) → Datum → State (List Cells) → State (List Cells)
+only_at key f k st = cond (same key k) (f st) st
+
+-- the records whose row has the key in the column, in their order
+abbrev pub records_of : ℕ → Datum → List Record → List Record
+records_of column key records = filter (λ (r : Record). has column key r.row) records
+
+-- of a gather the source's piece takes the records, where it is here; a hole and a filled key stay
+abbrev pub piece_after : ℕ → List Record → State (List Cells) → State (List Cells)
+piece_after source records Hole = Hole
+piece_after source records (Waiting pieces) = after_change with_records source records (Waiting pieces)
+piece_after source records (Filled rows) = Filled rows
+
+-- the records fit the source's piece, where the key waits and the piece is here
+abbrev pub FitsPiece : ℕ → List Record → State (List Cells) → Type 0
+FitsPiece source records Hole = Unit {0}
+FitsPiece source records (Waiting pieces) = ChangeFits IsCovered source records (Waiting pieces)
+FitsPiece source records (Filled rows) = Unit {0}
+
+-- they are of rows of the key, and what is summed of each fits 64 bits
+pub record AreRecordsOf (column : ℕ) (aggregate : Option Aggregate) (key : Datum) (records : List Record) : Type 0 where
+  pub keyed : Each (λ (r : Record). has column key r.row ≡ true) records
+  pub fit : Each (λ (r : Record). fits_64_bits aggregate r.row ≡ true) records
+
+-- the key that is given, if it is this one
+abbrev pub is_key : Option Value → Datum → Bool
+is_key None d = false
+is_key (Some key) d = same (datum_of key) d

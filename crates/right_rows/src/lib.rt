@@ -2,4 +2,5 @@
 //! keys that wait for theirs.
 #![tactic(auto)]
 
+mod pieces;
 pub mod rights;

@@ -119,7 +119,7 @@ fn change_key(
     ensures shown { (first : Key → Option (List Cells)) → LeadsTo first told.old.items kept.old
         → OnOk result (LeadsTo first told.new.items kept.new) }
 {
-    kept.apply(alloc, &key, source, group.records())?;
+    group.apply_at(alloc, kept, source, &key)?;
     let shown = kept.get(&key).is_some();
     tell_if(
         told,
