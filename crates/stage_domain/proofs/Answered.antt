@@ -9,11 +9,12 @@ use Rattle.plan.specs.Outputs.{out, key_place}
 use Rattle.plan.proofs.OutputLaws.{output_alike}
 use Rattle.model.specs.Fronts.{LogView}
 use Rattle.model.specs.Histories.{view_shard}
+use Rattle.model.specs.Places.{sources}
 use Rattle.model.specs.Queries.{Line, left, right, part}
 use Rattle.packet.specs.Codes.{stage_packet_of}
 use Rattle.packet.specs.Lines.{entries_of, lengths_of, plan_of}
-use Rattle.packet.specs.Messages.{Ask, Piece, StagePacketView}
-use Rattle.packet.specs.Outboxes.{EdgeView, packets_on}
+use Rattle.packet.specs.Messages.{Ask, Piece, StagePacketView, none_of}
+use Rattle.packet.specs.Outboxes.{packets_on}
 use Rattle.packet.specs.Readers.{Reader as ReaderView, readers, is_of, is_reader, view_of}
 use Rattle.packet.specs.Truth.{sent_of}
 use Rattle.packet.specs.declared.mode.Mode.TheVariants as mode
@@ -26,6 +27,7 @@ use Rattle.protocol.specs.Stages.{request}
 use Rattle.protocol.specs.StageSteps.{step, with_piece}
 use Rattle.stage_rows.specs.Held.{Held, output_over}
 use Rattle.stage_domain.specs.Domains.{Domain, HoldsRows, IsDone, IsTo, stage_of}
+use Rattle.stage_domain.specs.Outboxes.{OutboxView}
 use Rattle.stage_domain.specs.Told.{answer_of}
 use Rattle.stage_domain.proofs.Dones.{is_done}
 use Rattle.stage_domain.proofs.FullSteps.{request_step}
@@ -68,11 +70,11 @@ module _ (p : Layout) (s : ℕ) (line : Line) (a : Ask) where
           (record { plan = refl; stage = refl; view = sym (eqb-true r.view (view_of a.tag) u.0); shard = sym (eqb-true r.shard (view_shard p (view_of a.tag) a.key) u.1) }, tt)
       by false e = tt
 
-pub answer_done : (old new : Domain) (a : Ask) (out : List (EdgeView StagePacketView)) → new.plan ≡ old.plan → new.shard ≡ old.shard → new.line ≡ old.line → new.marks ≡ old.marks → packets_on out ≡ map (answers old.plan old.shard (entries_of old.line) a) (readers old.plan)
-    → new.mode ≡ mode.Running → IsDone (step (stage_of old) (request a)) out new
-answer_done old new a out plan shard line marks sent running =
+pub answer_done : (old new : Domain) (a : Ask) (out : OutboxView) → new.plan ≡ old.plan → new.shard ≡ old.shard → new.line ≡ old.line → new.marks ≡ old.marks → packets_on out.packets ≡ map (answers old.plan old.shard (entries_of old.line) a) (readers old.plan)
+    → packets_on out.requests ≡ none_of (sources old.plan) → new.mode ≡ mode.Running → IsDone (step (stage_of old) (request a)) out new
+answer_done old new a out plan shard line marks sent asks running =
     is_done (step (stage_of old) (request a)) out new old.plan old.shard (entries_of old.line) old.marks (λ r. cond (is_of old.plan (view_of a.tag) a.key r) (with_piece (entries_of old.line) a.key ∷ []) []) (answers old.plan old.shard (entries_of old.line) a)
-    (request_step old.plan old.shard (entries_of old.line) old.marks a) (rw (plan, shard, line, marks) refl) sent (answers_sent old.plan old.shard (entries_of old.line) a) (answers_to old.plan old.shard (entries_of old.line) a) running
+    (request_step old.plan old.shard (entries_of old.line) old.marks a) (rw (plan, shard, line, marks) refl) sent asks (answers_sent old.plan old.shard (entries_of old.line) a) (answers_to old.plan old.shard (entries_of old.line) a) running
 
 -- the shard of a key, and what goes where, by the numbers that the code has
 pub shard_is : (p : Layout) (sh view i n : ℕ) (d k : Datum) (v : ViewLayout) → sh ≡ shard d n → d ≡ k → n ≡ v.shards → v ≡ view_at p view → view ≡ i → sh ≡ view_shard p i k

@@ -12,7 +12,7 @@ use Rattle.packet.specs.Messages.{Ask, BasePacketView, Sent, Mark, Piece, none_o
 use Rattle.packet.specs.Named.{for_each, named}
 use Rattle.packet.specs.Readers.{Reader, readers, is_of, view_of, is_left, right_tag}
 use Rattle.packet.specs.Keys.{Keys}
-use Rattle.protocol.specs.Stages.{Stage, packet, request, Done, behind, keys_for}
+use Rattle.protocol.specs.Stages.{Stage, packet, request, order, Done, behind, keys_for}
 use Rattle.protocol.specs.StageSteps.{step, next, quiet, put, append_each, packet_taken, looks, look_all, caps, asks, answered, moved, with_marker, with_piece, unknown, asks_for, piece_taken, piece_given}
 use Rattle.protocol.proofs.Full.{nothing_unknown, all_known}
 
@@ -75,6 +75,16 @@ module _ (p : Layout) (s : ℕ) (line : Line) (marks : List Gathering) where
   abbrev old : Stage
   old = full p s line marks
 
+  -- nothing follows where nothing is put out
+  quiet_is : rest_of (quiet old) ≡ done p s line marks (λ r. [])
+  quiet_is =
+      ap (λ (x : List (List Sent)). made p old x (twice (sources p) (none_of (sources p)))) (twice_is (readers p) (λ r. []))
+      ∙ ap (λ (x : List (List Ask)). made p old (none_of (readers p)) x) (twice_is (sources p) (λ b. []))
+
+  -- ---- an order
+  pub order_step : (x : Datum) → step old (order x) ≡ done p s line marks (λ r. [])
+  order_step x = quiet_is
+
   -- ---- a packet
   module _ (j : ℕ) (k : BasePacketView) where
     taken_is : (piece : Option Piece) (marker : Option Mark) → k.piece ≡ piece → k.marker ≡ marker → packet_taken old j k k.piece k.marker ≡ packet_taken old j k piece marker
@@ -96,8 +106,7 @@ module _ (p : Layout) (s : ℕ) (line : Line) (marks : List Gathering) where
     pub piece_step : (piece : Piece) → k.piece ≡ Some piece → step old (packet j k) ≡ done p s line marks (λ r. [])
     piece_step piece is =
         let same : piece_taken old j piece ≡ None = both_none (is_left p j || not (piece.tag == right_tag)) (j - side_count p p.left) piece.key in
-        ap rest_of (taken_is (Some piece) k.marker is refl ∙ ap (λ (right : Option Keys). quiet (record old { right = right })) same)
-        ∙ (ap (λ (x : List (List Sent)). made p old x (twice (sources p) (none_of (sources p)))) (twice_is (readers p) (λ r. [])) ∙ ap (λ (x : List (List Ask)). made p old (none_of (readers p)) x) (twice_is (sources p) (λ b. [])))
+        ap rest_of (taken_is (Some piece) k.marker is refl ∙ ap (λ (right : Option Keys). quiet (record old { right = right })) same) ∙ quiet_is
 
   -- ---- a request
   module _ (a : Ask) where

@@ -10,12 +10,13 @@ use Rattle.model.specs.Places.{sources, source_at}
 use Rattle.model.specs.Queries.{Line, left, right}
 use Rattle.packet.specs.Lines.{AreOf, entries_of, no_log}
 use Rattle.packet.specs.Marks.{Gathering, MarksView}
-use Rattle.packet.specs.Messages.{BasePacketView, StagePacketView, none_of}
+use Rattle.packet.specs.Messages.{BasePacketView, StagePacketView}
 use Rattle.packet.specs.Outboxes.{EdgeView, packets_on}
 use Rattle.packet.specs.Readers.{Reader, readers, view_of}
 use Rattle.packet.specs.Truth.{IsLine, Pointwise, sent_of}
 use Rattle.packet.specs.declared.mode.Mode.{Mode}
 use Rattle.packet.specs.declared.mode.Mode.TheVariants as mode
+use Rattle.stage_domain.specs.Outboxes.{OutboxView, IsSilent, AreEdges}
 use Rattle.protocol.specs.Stages.{Stage, ToStage, packet, request, order, Done}
 use Rattle.stage_rows.specs.Held.{Held, AreFound}
 
@@ -51,11 +52,11 @@ pub record IsFrom (p : Layout) (s j : ℕ) (k : BasePacketView) : Type 0 where
 abbrev pub log_of : BasePacketView → LogView
 log_of k = record { plan = k.plan; base = k.base; entries = k.to }
 
--- the message is for it: of a packet the front is of the log whose front is held; of a request the view is one of the plan
+-- the message is for it: of a packet the front is of the log whose front is held; of a request the view is one of the plan; of an order nothing is asked
 abbrev pub Meets : (LogView → LogView → Type 0) → Domain → ToStage → Type 0
 Meets are_one d (packet j k) = IsFrom d.plan d.shard j k × are_one (slice_index_or d.line j no_log) (log_of k)
 Meets are_one d (request a) = view_of a.tag < length d.plan.views
-Meets are_one d (order x) = ⊥
+Meets are_one d (order x) = Unit {0}
 
 -- a packet starts at the front that is held of its source
 abbrev pub IsNext : Domain → ToStage → Type 0
@@ -75,22 +76,18 @@ pub record IsTo (p : Layout) (s : ℕ) (r : Reader) (x : StagePacketView) : Type
 abbrev pub AreTo : Layout → ℕ → List (EdgeView StagePacketView) → Type 0
 AreTo p s out = Pointwise (λ r xs. Each (IsTo p s r) xs) (readers p) (packets_on out)
 
--- all went as the definition says, which asks no source for anything, and it goes on
-pub record IsDone (d : Done) (out : List (EdgeView StagePacketView)) (new : Domain) : Type 0 where
+-- all went as the definition says, and it goes on
+pub record IsDone (d : Done) (out : OutboxView) (new : Domain) : Type 0 where
   pub stage : stage_of new ≡ d.stage
-  pub sent : map (map sent_of) (packets_on out) ≡ d.sent
-  pub asks : d.requests ≡ none_of (sources new.plan)
-  pub to : AreTo new.plan new.shard out
+  pub sent : map (map sent_of) (packets_on out.packets) ≡ d.sent
+  pub asks : packets_on out.requests ≡ d.requests
+  pub to : AreTo new.plan new.shard out.packets
   pub running : new.mode ≡ mode.Running
 
--- nothing goes on any edge
-abbrev pub IsSilent : List (EdgeView StagePacketView) → Type 0
-IsSilent out = packets_on out ≡ none_of out
-
--- it runs, and the edges are clear, one to each view shard
-pub record IsReady (d : Domain) (out : List (EdgeView StagePacketView)) : Type 0 where
+-- it runs, and the outbox is clear and has its edges
+pub record IsReady (d : Domain) (out : OutboxView) : Type 0 where
   pub clear : IsSilent out
-  pub edges : length out ≡ length (readers d.plan)
+  pub edges : AreEdges d.plan out
   pub running : d.mode ≡ mode.Running
 
 -- the same, but that it has stopped

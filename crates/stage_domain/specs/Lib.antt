@@ -1,4 +1,5 @@
 pub mod Told
+pub mod Outboxes
 pub mod Domains
 pub mod Sides
 pub mod Codes

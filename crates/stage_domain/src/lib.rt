@@ -6,5 +6,6 @@ mod entries;
 mod keyed;
 mod markers;
 pub mod message;
+pub mod outbox;
 mod packets;
 pub mod stage_domain;

@@ -1,14 +1,13 @@
 //! One stage shard over its line of fronts.
 ghost use Rattle.std.specs.Prelude.{◌≡◌, ◌≢◌, ◌<◌, Err, [], true, false, None, Some, length, slice_get, IfOk, OnOk, OnErr, IfErr, IsTrue, ◌↔◌};
 ghost use Rattle.row.specs.Bags.{Each};
+ghost use Rattle.row.specs.Cells.{datum_of};
 ghost use Rattle.packet.specs.Lines.{AreOf, entries_of};
 ghost use Rattle.model.specs.Fronts.{LogView};
 ghost use Rattle.packet.specs.Codes.{mark_of};
-ghost use Rattle.protocol.specs.Stages.{packet, request};
-ghost use Rattle.packet.specs.Messages.{none_of};
-ghost use Rattle.packet.specs.Outboxes.{packets_on};
-ghost use Rattle.stage_domain.specs.Domains.{Fails, IsDone, IsNext, IsReady, IsSilent, Meets, stage_of, stopped};
-ghost use Rattle.packet.specs.Readers.{readers};
+ghost use Rattle.protocol.specs.Stages.{packet, request, order};
+ghost use Rattle.stage_domain.specs.Domains.{Fails, IsDone, IsNext, IsReady, Meets, stage_of, stopped};
+ghost use Rattle.stage_domain.specs.Outboxes.{AreEdges, IsSilent};
 ghost use Rattle.protocol.specs.StageSteps.{step};
 ghost use Rattle.stage_domain.specs.Codes.{message_of};
 
@@ -16,16 +15,16 @@ use crate::answers::answer_request;
 use crate::entries::take_entry;
 use crate::markers::take_marker;
 use crate::message::ToStage;
+use crate::outbox::StageOutbox;
 use model::fronts::Fronts;
 use packet::base_packet::BasePacket;
-use packet::edges::Edges;
 use packet::line::Line;
 use packet::marks::Marks;
 use packet::mode::Mode;
 use packet::request::{Marker, Request};
-use packet::stage_packet::StagePacket;
 use plan::plan::Plan;
 use row::refused::Refused;
+use row::value::Value;
 use stage_rows::rows::StageRows;
 use std::alloc::{AllocError, Global};
 use std::marker::Model;
@@ -133,24 +132,25 @@ impl<'p, F: Fronts> StageDomain<'p, F> {
         held.len() == next.from()
     }
 
-    /// Takes one message into clear edges, one to each view shard of the plan, view by view.
+    /// Takes one message into a clear outbox with an edge to each view shard of the plan, view by
+    /// view, and to each source.
     ///
     /// Where all goes well it does just what the step of the protocol says: the packet of an entry
     /// moves the line, and each view shard gets one packet, also an empty one; a marker that has
-    /// come from every source goes to each; a request is answered at once. Errors, after which
-    /// nothing is on the edges: `Stopped` where it does not run, and then nothing changes; `Gap`
-    /// where a packet does not start at the front that is held of its source, and then it has
-    /// stopped and all else is as it was; `NoMemory`, and then it is broken. Cost: that of
-    /// `StageRows::change` for an entry, of `StageRows::piece` for a request, and a copy of the
-    /// line for each packet.
+    /// come from every source goes to each; a request is answered at once; an order changes
+    /// nothing. Errors, after which nothing is put out: `Stopped` where it does not run, and then
+    /// nothing changes; `Gap` where a packet does not start at the front that is held of its
+    /// source, and then it has stopped and all else is as it was; `NoMemory`, and then it is
+    /// broken. Cost: that of `StageRows::change` for an entry, of `StageRows::piece` for a request,
+    /// and a copy of the line for each packet.
     pub fn receive(
         &mut self,
         alloc: Global,
         message: ToStage<F>,
-        out: &mut Edges<StagePacket<F>>,
+        out: &mut StageOutbox<F>,
     ) -> Result<(), Refused>
-        requires clear { packets_on out.old ≡ none_of out.old }
-        requires edges { length out.old ≡ length (readers self.old.plan) }
+        requires clear { IsSilent out.old }
+        requires edges { AreEdges self.old.plan out.old }
         requires meets { Meets F.are_one self.old (message_of message) }
         ensures done { OnOk result (IsDone (step (stage_of self.old) (message_of message))
             out.new self.new) }
@@ -160,7 +160,7 @@ impl<'p, F: Fronts> StageDomain<'p, F> {
         ensures refused { self.old.mode ≡ Mode.Running → IfErr result (λ e. Fails self.old
             (message_of message) e self.new) }
         ensures unsent { OnErr result (IsSilent out.new) }
-        ensures edges { length out.new ≡ length out.old }
+        ensures edges { AreEdges self.old.plan out.new }
     {
         if self.mode != Mode::Running {
             return Err(Refused::Stopped);
@@ -168,7 +168,20 @@ impl<'p, F: Fronts> StageDomain<'p, F> {
         match message {
             ToStage::Packet { source, packet } => self.take(alloc, source, packet, out),
             ToStage::Request(ask) => self.answer(alloc, ask, out),
+            ToStage::Order(key) => {
+                self.stay(key, out);
+                Ok(())
+            }
         }
+    }
+
+    /// Takes an order to evict a stage key: both sides are held in full, so that no key goes.
+    fn stay(&self, key: Value, out: &StageOutbox<F>)
+        requires ready { IsReady self.now out.now }
+        ensures done { IsDone (step (stage_of self.now) (order (datum_of key)))
+            out.now self.now }
+    {
+        drop(key);
     }
 
     /// Answers a request of a view shard. Errors: `NoMemory`, and then it is broken.
@@ -176,7 +189,7 @@ impl<'p, F: Fronts> StageDomain<'p, F> {
         &mut self,
         alloc: Global,
         ask: Request,
-        out: &mut Edges<StagePacket<F>>,
+        out: &mut StageOutbox<F>,
     ) -> Result<(), Refused>
         requires ready { IsReady self.old out.old }
         requires meets { Meets F.are_one self.old (request ask) }
@@ -184,10 +197,16 @@ impl<'p, F: Fronts> StageDomain<'p, F> {
             out.new self.new) }
         ensures refused { IfErr result (λ e. Fails self.old (request ask) e self.new) }
         ensures unsent { OnErr result (IsSilent out.new) }
-        ensures edges { length out.new ≡ length out.old }
+        ensures edges { AreEdges self.old.plan out.new }
     {
         let sent = answer_request(
-            alloc, self.plan, self.shard, &self.rows, &self.line, ask, out,
+            alloc,
+            self.plan,
+            self.shard,
+            &self.rows,
+            &self.line,
+            ask,
+            &mut out.packets,
         );
         self.mode = mode_after(&sent);
         sent
@@ -200,7 +219,7 @@ impl<'p, F: Fronts> StageDomain<'p, F> {
         alloc: Global,
         source: usize,
         next: BasePacket<F>,
-        out: &mut Edges<StagePacket<F>>,
+        out: &mut StageOutbox<F>,
     ) -> Result<(), Refused>
         requires ready { IsReady self.old out.old }
         requires meets { Meets F.are_one self.old (packet source next) }
@@ -209,7 +228,7 @@ impl<'p, F: Fronts> StageDomain<'p, F> {
         ensures next { OnOk result (IsNext self.old (packet source next)) }
         ensures refused { IfErr result (λ e. Fails self.old (packet source next) e self.new) }
         ensures unsent { OnErr result (IsSilent out.new) }
-        ensures edges { length out.new ≡ length out.old }
+        ensures edges { AreEdges self.old.plan out.new }
     {
         if !self.is_next(source, &next) {
             self.mode = Mode::Stopped;
@@ -231,14 +250,14 @@ impl<'p, F: Fronts> StageDomain<'p, F> {
         source: usize,
         next: BasePacket<F>,
         marker: Marker,
-        out: &mut Edges<StagePacket<F>>,
+        out: &mut StageOutbox<F>,
     ) -> Result<(), Refused>
         requires ready { IsReady self.old out.old }
         requires meets { Meets F.are_one self.old (packet source next) }
         requires next { IsNext self.old (packet source next) }
         requires piece { next.piece ≡ None }
         requires marker { next.marker ≡ Some (mark_of marker) }
-        ensures edges { length out.new ≡ length out.old }
+        ensures edges { AreEdges self.old.plan out.new }
         ensures unsent { OnErr result (IsSilent out.new) }
         ensures done { OnOk result (IsDone (step (stage_of self.old) (packet source next))
             out.new self.new) }
@@ -252,7 +271,7 @@ impl<'p, F: Fronts> StageDomain<'p, F> {
             &self.line,
             source,
             marker,
-            out,
+            &mut out.packets,
         );
         self.mode = mode_after(&sent);
         sent
@@ -264,7 +283,7 @@ impl<'p, F: Fronts> StageDomain<'p, F> {
         next: BasePacket<F>,
         alloc: Global,
         source: usize,
-        out: &mut Edges<StagePacket<F>>,
+        out: &mut StageOutbox<F>,
     ) -> Result<(), Refused>
         requires ready { IsReady self.old out.old }
         requires meets { Meets F.are_one self.old (packet source next) }
@@ -275,7 +294,7 @@ impl<'p, F: Fronts> StageDomain<'p, F> {
             out.new self.new) }
         ensures refused { IfErr result (λ e. Fails self.old (packet source next) e self.new) }
         ensures unsent { OnErr result (IsSilent out.new) }
-        ensures edges { length out.new ≡ length out.old }
+        ensures edges { AreEdges self.old.plan out.new }
     {
         let sent = take_entry(
             alloc,
@@ -285,7 +304,7 @@ impl<'p, F: Fronts> StageDomain<'p, F> {
             &mut self.line,
             source,
             next,
-            out,
+            &mut out.packets,
         );
         self.mode = mode_after(&sent);
         sent

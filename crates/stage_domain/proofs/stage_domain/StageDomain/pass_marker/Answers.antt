@@ -4,7 +4,8 @@ use Rattle.packet.specs.Marks.{MarksView}
 use Rattle.protocol.specs.Stages.{packet}
 use Rattle.protocol.specs.StageSteps.{step}
 use Rattle.stage_domain.specs.Domains.{Domain, IsDone, stage_of}
-use Rattle.stage_domain.proofs.Dones.{on_ok_all, marker_done}
+use Rattle.stage_domain.specs.Outboxes.{OutboxView}
+use Rattle.stage_domain.proofs.Dones.{asks_kept, on_ok_all, marker_done}
 use Rattle.stage_domain.proofs.stage_domain.StageDomain.pass_marker.Goals as goal
 
 pub returns-clause-done : goal.returns-clause-done
@@ -12,7 +13,9 @@ returns-clause-done g c =
     let d = c.self.inside in
     let old : Domain = record { plan = d.plan.now; shard = d.shard; line = d.line; marks = d.marks.waiting; mode = d.mode } in
     let new : Domain = record { plan = d.plan.now; shard = d.shard; line = d.line; marks = c.take_marker-sent.new.marks.waiting; mode = c.mode_after-self-inside.result } in
-    let out = c.take_marker-sent.new.out in
+    let parts : OutboxView = record { packets = c.out.inside.packets; requests = c.out.inside.requests } in
+    let out : OutboxView = record parts { packets = c.take_marker-sent.new.out } in
+    let asks = asks_kept old c.args.self.now parts c.args.out.now c.self.view_is c.out.view_is c.requires.ready in
     on_ok_all c.take_marker-sent.result c.take_marker-sent.ensures.marks c.take_marker-sent.ensures.sent c.mode_after-self-inside.ensures.ok
     (λ marks sent running. subst (λ (d : Domain). IsDone (step (stage_of d) (packet c.args.source c.args.next)) out new) c.self.view_is
-    (marker_done old new c.args.source d.marks.senders c.args.next (mark_of c.args.marker) out c.requires.piece c.requires.marker c.self.invariant.senders refl refl refl (ap (λ (m : MarksView). m.waiting) marks) sent running))
+    (marker_done old new c.args.source d.marks.senders c.args.next (mark_of c.args.marker) out c.requires.piece c.requires.marker c.self.invariant.senders refl refl refl (ap (λ (m : MarksView). m.waiting) marks) sent asks running))
