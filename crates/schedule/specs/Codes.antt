@@ -28,7 +28,8 @@ event_of (code.Want session view key) = event.want session (string_bytes view) (
 event_of (code.Fence session) = event.fence session
 event_of (code.Count session view) = event.count session (string_bytes view)
 event_of (code.Deliver edge) = event.deliver edge
-event_of (code.Evict view key) = event.evict_view (string_bytes view) (datum_of key)
+event_of (code.EvictStage key) = event.evict_stage (datum_of key)
+event_of (code.EvictView view key) = event.evict_view (string_bytes view) (datum_of key)
 event_of (code.Stop d) = event.stop d
 event_of code.Settle = event.settle
 

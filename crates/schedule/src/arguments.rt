@@ -1,15 +1,15 @@
 //! Calls whose arguments are refused.
 ghost use Rattle.std.specs.Prelude.{◌≡◌, ◌<◌, true, length, IfOk, IfErr, Some, None};
-ghost use Rattle.row.specs.Cells.{datum_of};
+ghost use Rattle.row.specs.Cells.{datum_of, shard};
 ghost use Rattle.plan.specs.Layouts.{table_at, table_named, view_named};
 ghost use Rattle.model.specs.Entries.{change_of};
 ghost use Rattle.model.specs.Logs.{fits};
-ghost use Rattle.model.specs.Refusals.{misfit, read_refusal, view_refusal, write_refusal};
+ghost use Rattle.model.specs.Refusals.{evict_refusal, misfit, read_refusal, view_refusal, write_refusal};
 
 use model::entry::Entry;
 use plan::plan::Plan;
 use row::refused::Refused;
-use row::value::Value;
+use row::value::{Value, shard_of};
 
 /// The place of the table that a write names, where the entry fits it. Errors: `UnknownTable`, then
 /// `BadRow`, or `BadKey` for a Delete. Takes no memory. Cost: a look at each table's name and at
@@ -59,6 +59,22 @@ pub fn read_target(plan: &Plan, view: &str, key: &Value) -> Result<usize, Refuse
         return Err(Refused::BadKey);
     }
     Ok(place)
+}
+
+/// The stage shard that has a stage key, where the key is a cell of the column that keys the left
+/// table for the stage. Errors: `BadKey`. Takes no memory. Cost: a look at the key.
+pub fn stage_target(plan: &Plan, key: &Value) -> Result<usize, Refused>
+    ensures shard { IfOk result (λ s. s ≡ shard (datum_of key.now) plan.now.stages) }
+    ensures there { IfOk result (λ s. s < plan.now.stages) }
+    ensures free { IfOk result (λ s. evict_refusal plan.now None (datum_of key.now) ≡ None) }
+    ensures why { IfErr result (λ e. evict_refusal plan.now None (datum_of key.now) ≡ Some e) }
+{
+    plan.keeps_profile();
+    let table = plan.table(plan.left().table());
+    if !table.takes_at(plan.left().key(), key) {
+        return Err(Refused::BadKey);
+    }
+    Ok(shard_of(key, plan.stages()))
 }
 
 /// The place of the view that a call names. Errors: `UnknownView`. Takes no memory. Cost: a look at

@@ -7,8 +7,8 @@ use row::row::Row;
 use row::value::Value;
 
 /// An event: a call of a session, the delivery of the first message of an edge, an order to evict a
-/// key of a view, a stop of a domain, or deliveries until all edges are empty. Tables and views
-/// stand by their names; an edge or a domain is what its text names, if it names one.
+/// stage key or a key of a view, a stop of a domain, or deliveries until all edges are empty. Tables
+/// and views stand by their names; an edge or a domain is what its text names, if it names one.
 #[derive(Drop)]
 pub enum Event {
     Write {
@@ -36,7 +36,10 @@ pub enum Event {
     Deliver {
         edge: Option<Edge>,
     },
-    Evict {
+    EvictStage {
+        key: Value,
+    },
+    EvictView {
         view: String,
         key: Value,
     },

@@ -6,7 +6,7 @@ ghost use Rattle.plan.specs.Layouts.{table_at, view_at};
 ghost use Rattle.model.specs.Entries.{change_of};
 ghost use Rattle.model.specs.Histories.{view_shard};
 ghost use Rattle.model.specs.Logs.{fits, key_of};
-ghost use Rattle.model.specs.Places.{base_count, shard_of, sources, table_of};
+ghost use Rattle.model.specs.Places.{base_count, shard_of, source_at, sources, table_of};
 ghost use Rattle.base.specs.Shards.{HasKey};
 ghost use Rattle.packet.specs.Readers.{readers};
 ghost use Rattle.protocol.specs.Edges.{is_domain, is_edge, is_there, place_or, reader_place, source_place, wire_at, wire_of, wires};
@@ -116,6 +116,13 @@ impl<'p> Places<'p> {
         ensures { result ≡ source_place self.now base }
     {
         self.sources.iter().position(|own| *own == base)
+    }
+
+    /// The base shard that a source is, or 0 where there is no such source.
+    pub fn source_at(&self, source: usize) -> usize
+        ensures { result ≡ source_at self.now source }
+    {
+        self.sources.get(source).copied().unwrap_or(0)
     }
 
     /// The place of a shard of a view among all view shards, or 0.
