@@ -1,8 +1,7 @@
 -- Queues: what holds of each message on them, and what stands on them as far as keys go.
-use Rattle.std.proofs.Common.{◌≡◌, ℕ, zero, suc, List, [], ◌∷◌, ◌++◌, map, length, replicate, slice_set, slice_index_or, refl, ap, sym, ◌∙◌, subst}
+use Rattle.std.proofs.Common.{◌≡◌, ℕ, zero, suc, List, [], ◌∷◌, ◌++◌, map, replicate, slice_set, slice_index_or, refl, ap, sym, ◌∙◌, subst}
 use Rattle.std.proofs.lemmas.List.{map-append}
 use Rattle.row.specs.Bags.{Each}
-use Rattle.packet.specs.Messages.{none_of}
 use Rattle.protocol.specs.Edges.{pushed, queue, with_queue}
 use Rattle.protocol.specs.Worlds.{no_queues}
 use Rattle.protocol.proofs.Lists.{map_set}
@@ -66,18 +65,6 @@ module _ {X Y : Type 0} (f : X → Y) where
 -- ---- nothing is sent
 abbrev empties : {X : Type 0} → ℕ → List (List X)
 empties n = replicate n []
-
-nothing_more : {X : Type 0} (n i : ℕ) → slice_set (empties {X = X} n) i (slice_index_or (empties {X = X} n) i [] ++ []) ≡ empties {X = X} n
-nothing_more zero i = refl
-nothing_more (suc n) zero = refl
-nothing_more (suc n) (suc i) = ap (λ t. [] ∷ t) (nothing_more n i)
-
-abbrev none : {X Y : Type 0} → List Y → List (List X)
-none ys = none_of ys
-
-pub pushed_none : {X Y : Type 0} (i n : ℕ) (ys : List Y) → pushed i (none {X = X} ys) (no_queues (length ys) n) ≡ no_queues (length ys) n
-pushed_none i n [] = refl
-pushed_none i n (y ∷ ys) = ap (λ b. b ∷ pushed i (none ys) (no_queues (length ys) n)) (nothing_more n i) ∙ ap (λ t. empties n ∷ t) (pushed_none i n ys)
 
 pub nothing_queued : {X : Type 0} (n m r i : ℕ) → queue (no_queues {X = X} n m) r i ≡ []
 nothing_queued zero m r i = refl

@@ -2,10 +2,9 @@
 use Rattle.std.proofs.Common.{Bool, ◌≡◌, ◌≢◌, ℕ, zero, suc, ◌<◌, true, List, [], ◌∷◌, map, Option, Some, None, slice_get, slice_index_or, refl, ap, sym, ◌∙◌, subst}
 use Rattle.row.specs.Bags.{Each}
 use Rattle.plan.specs.Layouts.{Layout}
-use Rattle.model.specs.Places.{sources}
 use Rattle.packet.specs.Lines.{entries_of}
-use Rattle.packet.specs.Messages.{BasePacketView, StagePacketView, Piece, Mark, none_of}
-use Rattle.packet.specs.Outboxes.{EdgeView, packets_on}
+use Rattle.packet.specs.Messages.{Ask, BasePacketView, StagePacketView, Piece, Mark}
+use Rattle.packet.specs.Outboxes.{packets_on}
 use Rattle.packet.specs.Readers.{Reader, readers}
 use Rattle.packet.specs.Truth.{Pointwise, sent_of}
 use Rattle.packet.specs.declared.mode.Mode.{Mode}
@@ -14,10 +13,11 @@ use Rattle.protocol.specs.Edges.{pushed}
 use Rattle.protocol.specs.Stages.{Stage, ToStage, packet, request, order, Done}
 use Rattle.protocol.specs.StageSteps.{step}
 use Rattle.stage_domain.specs.Domains.{Domain, stage_of, IsTo, IsDone}
+use Rattle.stage_domain.specs.Outboxes.{OutboxView}
 use Rattle.stage_domain.proofs.FullSteps.{entry_step, marker_step, piece_step, request_step}
 use Rattle.protocol.specs.Worlds.{Node}
 use Rattle.protocol.proofs.Lists.{each_to}
-use Rattle.machine.specs.Held.{IsStageOf, IsSentBy, AreQueued, runs}
+use Rattle.machine.specs.Held.{IsStageOf, IsSentBy, IsStageAsk, AreQueued, runs}
 use Rattle.machine.specs.Turned.{IsStageTurn}
 use Rattle.machine.proofs.Queued.{queued_pushed, map_pushed}
 
@@ -68,18 +68,25 @@ sent_by p s lt r x at y to = record { plan = to.plan; stage = to.stage; place = 
 pub running_whole : (m : Mode) → m ≡ mode.Running → m ≢ mode.Broken
 running_whole m is e = let no : mode.Running ≡ mode.Broken = sym is ∙ e in cc
 
-pub stage_turn : (s : ℕ) (old new : Domain) (m : ToStage) (out : List (EdgeView StagePacketView)) (before after : List (List (List StagePacketView))) → IsStageOf old.plan s old → IsDone (step (stage_of old) m) out new → after ≡ pushed s (packets_on out) before
-    → IsStageTurn old.plan s (step (stage_of old) m) before new after
-stage_turn s old new m out before after is done put =
+-- what holds of all holds of each
+all_hold : {X : Type 0} (P : X → Type 0) → ((x : X) → P x) → (xs : List X) → Each P xs
+all_hold P h [] = tt
+all_hold P h (x ∷ xs) = (h x, all_hold P h xs)
+
+pub stage_turn : (s : ℕ) (old new : Domain) (m : ToStage) (out : OutboxView) (before after : List (List (List StagePacketView))) (asked asks : List (List (List Ask))) → IsStageOf old.plan s old → IsDone (step (stage_of old) m) out new → after ≡ pushed s (packets_on out.packets) before
+    → asks ≡ pushed s (packets_on out.requests) asked → IsStageTurn old.plan s (step (stage_of old) m) before asked new after asks
+stage_turn s old new m out before after asked asks is done put added =
     let stay = stays old m in
     let plan : new.plan ≡ old.plan = ap (λ (x : Stage). x.plan) done.stage ∙ stay.plan in
     let shard : new.shard ≡ s = ap (λ (x : Stage). x.shard) done.stage ∙ (stay.shard ∙ is.shard) in
-    let to : Pointwise (λ r xs. Each (IsTo old.plan s r) xs) (readers old.plan) (packets_on out) = rw (← plan, ← shard) done.to in
+    let to : Pointwise (λ r xs. Each (IsTo old.plan s r) xs) (readers old.plan) (packets_on out.packets) = rw (← plan, ← shard) done.to in
     record {
       node = ap (λ b. node (stage_of new) b) (ap runs done.running) ∙ ap (λ x. node x true) done.stage;
       is = record { plan = plan; shard = shard; place = is.place; whole = running_whole new.mode done.running };
-      sent = ap (map (map (map sent_of))) put ∙ (map_pushed sent_of s (packets_on out) before ∙ ap (λ xss. pushed s xss (map (map (map sent_of)) before)) done.sent);
+      sent = ap (map (map (map sent_of))) put ∙ (map_pushed sent_of s (packets_on out.packets) before ∙ ap (λ xss. pushed s xss (map (map (map sent_of)) before)) done.sent);
       queued = λ h. subst (AreQueued (IsSentBy old.plan)) (sym put)
-          (queued_pushed (IsSentBy old.plan) s (packets_on out) before h (at_place (IsTo old.plan s) (λ r. IsSentBy old.plan r s) (readers old.plan) (packets_on out) to (sent_by old.plan s is.place)));
-      requests = done.asks ∙ ap (λ p. none_of (sources p)) plan;
+          (queued_pushed (IsSentBy old.plan) s (packets_on out.packets) before h (at_place (IsTo old.plan s) (λ r. IsSentBy old.plan r s) (readers old.plan) (packets_on out.packets) to (sent_by old.plan s is.place)));
+      requests = added ∙ ap (λ xss. pushed s xss asked) done.asks;
+      asking = λ h. subst (AreQueued (IsStageAsk old.plan)) (sym added)
+          (queued_pushed (IsStageAsk old.plan) s (packets_on out.requests) asked h (λ r. all_hold (IsStageAsk old.plan r s) (λ a. is.place) (slice_index_or (packets_on out.requests) r [])));
     }

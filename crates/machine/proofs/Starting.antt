@@ -298,6 +298,7 @@ module _ {F : Type 0} (log : F → LogView) (authors : F → List Author) where
     pub to_stage : h.to_stage ≡ no_queues p.stages (length (sources p))
     pub to_view : h.to_view ≡ no_queues (length (readers p)) p.stages
     pub from_view : h.from_view ≡ no_queues p.stages (length (readers p))
+    pub to_base : h.to_base ≡ no_queues (length (sources p)) p.stages
     pub sessions : h.sessions ≡ new_sessions p
 
   abbrev made : Layout → List (BaseDomain F) → Held F
@@ -309,20 +310,21 @@ module _ {F : Type 0} (log : F → LogView) (authors : F → List Author) where
     to_stage = no_queues p.stages (length (sources p));
     to_view = no_queues (length (readers p)) p.stages;
     from_view = no_queues p.stages (length (readers p));
+    to_base = no_queues (length (sources p)) p.stages;
     sessions = new_sessions p;
   }
 
-  abbrev held_of : List (BaseDomain F) → Layout → List StageDomain → List ViewDomain → List (List (List BasePacketView)) → List (List (List StagePacketView)) → List (List (List Ask)) → List Session → Held F
-  held_of bases p stages views to_stage to_view from_view sessions =
-      record { plan = p; bases = bases; stages = stages; views = views; to_stage = to_stage; to_view = to_view; from_view = from_view; sessions = sessions }
+  abbrev held_of : List (BaseDomain F) → Layout → List StageDomain → List ViewDomain → List (List (List BasePacketView)) → List (List (List StagePacketView)) → List (List (List Ask)) → List (List (List Ask)) → List Session → Held F
+  held_of bases p stages views to_stage to_view from_view to_base sessions =
+      record { plan = p; bases = bases; stages = stages; views = views; to_stage = to_stage; to_view = to_view; from_view = from_view; to_base = to_base; sessions = sessions }
 
   is_made : (p : Layout) (h : Held F) → IsNew p h → h ≡ made p h.bases
-  is_made p h n = by h.plan h.stages h.views h.to_stage h.to_view h.from_view h.sessions n.plan n.stages n.views n.to_stage n.to_view n.from_view n.sessions
+  is_made p h n = by h.plan h.stages h.views h.to_stage h.to_view h.from_view h.to_base h.sessions n.plan n.stages n.views n.to_stage n.to_view n.from_view n.to_base n.sessions
     where
-      by : (q : Layout) (stages : List StageDomain) (views : List ViewDomain) (to_stage : List (List (List BasePacketView))) (to_view : List (List (List StagePacketView))) (from_view : List (List (List Ask))) (sessions : List Session)
-          → q ≡ p → stages ≡ new_stages p → views ≡ new_views p → to_stage ≡ no_queues p.stages (length (sources p)) → to_view ≡ no_queues (length (readers p)) p.stages → from_view ≡ no_queues p.stages (length (readers p)) → sessions ≡ new_sessions p
-          → held_of h.bases q stages views to_stage to_view from_view sessions ≡ made p h.bases
-      by q stages views to_stage to_view from_view sessions a b c d e f g = rw (a, b, c, d, e, f, g) refl
+      by : (q : Layout) (stages : List StageDomain) (views : List ViewDomain) (to_stage : List (List (List BasePacketView))) (to_view : List (List (List StagePacketView))) (from_view to_base : List (List (List Ask))) (sessions : List Session)
+          → q ≡ p → stages ≡ new_stages p → views ≡ new_views p → to_stage ≡ no_queues p.stages (length (sources p)) → to_view ≡ no_queues (length (readers p)) p.stages → from_view ≡ no_queues p.stages (length (readers p)) → to_base ≡ no_queues (length (sources p)) p.stages
+          → sessions ≡ new_sessions p → held_of h.bases q stages views to_stage to_view from_view to_base sessions ≡ made p h.bases
+      by q stages views to_stage to_view from_view to_base sessions a b c d e f g i = rw (a, b, c, d, e, f, g, i) refl
 
   bases_are : (p : Layout) (bases : List (BaseDomain F)) → Are (IsNewBase log authors p) (base_count p) bases → map (base_node log authors) bases ≡ map (first_base p) (range_with_len 0 (base_count p))
   bases_are p bases are = are_images (IsNewBase log authors p) (base_node log authors) (first_base p) (base_count p) bases are (base_is p)
@@ -339,6 +341,7 @@ module _ {F : Type 0} (log : F → LogView) (authors : F → List Author) where
     to_stage = none_queued _ p.stages (length (sources p));
     to_view = none_queued _ (length (readers p)) p.stages;
     from_view = none_queued _ p.stages (length (readers p));
+    to_base = none_queued _ (length (sources p)) p.stages;
     sessions = sessions_placed p (map (base_node log authors) bases) (bases_are p bases are);
   }
 

@@ -91,6 +91,7 @@ module _ {F : Type 0} (log : F → LogView) (authors : F → List Author) where
           to_stage = p.to_stage;
           to_view = p.to_view;
           from_view = p.from_view;
+          to_base = p.to_base;
           sessions = record { size = p.sessions.size; each = λ se s there. record { size = (p.sessions.each se s there).size ∙ sym many; each = λ b. (p.sessions.each se s there).each b ∙ sym (own se b) } };
         };
       }

@@ -6,7 +6,7 @@ use Rattle.plan.specs.Profile.{IsPlan}
 use Rattle.model.specs.Legal.{most_sessions}
 use Rattle.model.specs.Fronts.{LogView, Agree}
 use Rattle.model.specs.Histories.{Author}
-use Rattle.model.specs.Places.{base_count, sources}
+use Rattle.model.specs.Places.{base_count}
 use Rattle.packet.specs.Messages.{Ask, BasePacketView, StagePacketView, Sent}
 use Rattle.packet.specs.Readers.{readers, view_of}
 use Rattle.packet.specs.Truth.{sent_of}
@@ -18,7 +18,7 @@ use Rattle.protocol.specs.Events.{Reply}
 use Rattle.protocol.specs.Laws.{IsReached}
 use Rattle.protocol.specs.Stages.{Stage}
 use Rattle.protocol.specs.Views.{View}
-use Rattle.protocol.specs.Worlds.{Node, World, no_queues}
+use Rattle.protocol.specs.Worlds.{Node, World}
 use Rattle.protocol.specs.WorldSteps.{Did, own_in}
 use Rattle.base_domain.specs.Received.{base_at}
 use Rattle.base_domain.specs.Domains.{Domain as BaseDomain}
@@ -36,6 +36,7 @@ pub record Held (F : Type 0) : Type 0 where
   pub to_stage : List (List (List BasePacketView))
   pub to_view : List (List (List StagePacketView))
   pub from_view : List (List (List Ask))
+  pub to_base : List (List (List Ask))
   pub sessions : List Session
 
 -- fronts that agree are known to be of one log
@@ -89,6 +90,10 @@ pub record IsSentBy (p : Layout) (r s : ℕ) (x : StagePacketView) : Type 0 wher
 abbrev pub IsAsk : Layout → ℕ → ℕ → Ask → Type 0
 IsAsk p s r a = view_of a.tag < length p.views
 
+-- the request to a source is of a stage shard of the plan
+abbrev pub IsStageAsk : Layout → ℕ → ℕ → Ask → Type 0
+IsStageAsk p j s a = s < p.stages
+
 -- so is each message to receiver r of sender i
 abbrev pub AreQueued : {X : Type 0} → (ℕ → ℕ → X → Type 0) → List (List (List X)) → Type 0
 AreQueued Is queues = (r i : ℕ) → Each (Is r i) (queue queues r i)
@@ -102,7 +107,7 @@ module _ {F : Type 0} (log : F → LogView) (authors : F → List Author) where
   abbrev pub base_node : BaseDomain F → Node Base
   base_node d = record { is = base_at log authors d; runs = not d.stopped }
 
-  -- the world of the protocol that it is: no stage shard asks a source, since it holds both of its sides in full
+  -- the world of the protocol that it is
   abbrev pub world_of : Held F → World
   world_of h = record {
     plan = h.plan;
@@ -112,7 +117,7 @@ module _ {F : Type 0} (log : F → LogView) (authors : F → List Author) where
     to_stage = h.to_stage;
     to_view = sent_in h.to_view;
     from_view = h.from_view;
-    to_base = no_queues (length (sources h.plan)) h.plan.stages;
+    to_base = h.to_base;
     callers = map (λ (s : Session). s.is) h.sessions;
   }
 
@@ -131,12 +136,18 @@ module _ {F : Type 0} (log : F → LogView) (authors : F → List Author) where
     pub to_stage : AreQueued (λ s j. IsFrom h.plan s j) h.to_stage
     pub to_view : AreQueued (IsSentBy h.plan) h.to_view
     pub from_view : AreQueued (IsAsk h.plan) h.from_view
+    pub to_base : AreQueued (IsStageAsk h.plan) h.to_base
     pub sessions : Are (KnowsOwn (map base_node h.bases)) most_sessions h.sessions
 
   -- all that holds between two steps
   pub record IsWhole (h : Held F) : Type 0 where
     pub reached : IsReached (world_of h)
     pub placed : IsPlaced h
+
+  -- it is this world, and all is in its place
+  pub record IsAt (w : World) (new : Held F) : Type 0 where
+    pub world : world_of new ≡ w
+    pub placed : IsPlaced new
 
   -- all went as the definition says, and all is in its place
   pub record IsDone (d : Did) (said : Reply) (new : Held F) : Type 0 where

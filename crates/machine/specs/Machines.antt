@@ -11,5 +11,6 @@ held m = record {
   to_stage = m.to_stage;
   to_view = m.to_view;
   from_view = m.from_view;
+  to_base = m.to_base;
   sessions = m.callers.items;
 }

@@ -1,11 +1,10 @@
 -- What one message makes of one domain and of the queues that it sends to.
 use Rattle.std.specs.Prelude.{◌≡◌, ℕ, true, false, List, Option, Some, slice_get, slice_set}
 use Rattle.plan.specs.Layouts.{Layout}
-use Rattle.model.specs.Places.{sources}
 use Rattle.model.specs.Fronts.{LogView}
 use Rattle.model.specs.Histories.{Author}
 use Rattle.model.specs.Legal.{most_sessions}
-use Rattle.packet.specs.Messages.{Ask, BasePacketView, StagePacketView, none_of}
+use Rattle.packet.specs.Messages.{Ask, BasePacketView, StagePacketView}
 use Rattle.packet.specs.declared.mode.Mode.TheVariants as mode
 use Rattle.protocol.specs.Bases as base
 use Rattle.protocol.specs.BaseSteps as on_base
@@ -18,25 +17,27 @@ use Rattle.base_domain.specs.Domains.{Domain as BaseDomain}
 use Rattle.base_domain.specs.Received.{IsFor, base_at}
 use Rattle.stage_domain.specs.Domains.{Domain as StageDomain, IsFrom, stage_of}
 use Rattle.view_domain.specs.Domains.{Domain as ViewDomain}
-use Rattle.machine.specs.Held.{Held, IsBaseOf, IsStageOf, IsViewOf, AreQueued, IsSentBy, IsAsk, sent_in, base_node, stage_node, view_node}
+use Rattle.machine.specs.Held.{Held, IsBaseOf, IsStageOf, IsViewOf, AreQueued, IsSentBy, IsAsk, IsStageAsk, sent_in, base_node, stage_node, view_node}
 
--- stage shard s of the plan has done this, which asks no source for anything, and goes on
-pub record IsStageTurn (p : Layout) (s : ℕ) (d : stage.Done) (old : List (List (List StagePacketView))) (new : StageDomain) (queues : List (List (List StagePacketView))) : Type 0 where
+-- stage shard s of the plan has done this, and goes on
+pub record IsStageTurn (p : Layout) (s : ℕ) (d : stage.Done) (old : List (List (List StagePacketView))) (asked : List (List (List Ask))) (new : StageDomain) (queues : List (List (List StagePacketView))) (asks : List (List (List Ask))) : Type 0 where
   pub node : stage_node new ≡ record { is = d.stage; runs = true }
   pub is : IsStageOf p s new
   pub sent : sent_in queues ≡ pushed s d.sent (sent_in old)
   pub queued : AreQueued (IsSentBy p) old → AreQueued (IsSentBy p) queues
-  pub requests : d.requests ≡ none_of (sources p)
+  pub requests : asks ≡ pushed s d.requests asked
+  pub asking : AreQueued (IsStageAsk p) asked → AreQueued (IsStageAsk p) asks
 
 -- stage shard s has had this message, and nothing else has changed
 pub record IsGiven {F : Type 0} (s : ℕ) (m : stage.ToStage) (old new : Held F) : Type 0 where
   pub domain : StageDomain
   pub later : StageDomain
   pub queues : List (List (List StagePacketView))
+  pub asks : List (List (List Ask))
   pub there : slice_get old.stages s ≡ Some domain
   pub running : domain.mode ≡ mode.Running
-  pub turn : IsStageTurn domain.plan s (on_stage.step (stage_of domain) m) old.to_view later queues
-  pub is : new ≡ record old { stages = slice_set old.stages s later; to_view = queues }
+  pub turn : IsStageTurn domain.plan s (on_stage.step (stage_of domain) m) old.to_view old.to_base later queues asks
+  pub is : new ≡ record old { stages = slice_set old.stages s later; to_view = queues; to_base = asks }
 
 -- view shard r has done this, and goes on
 pub record IsViewTurn (p : Layout) (r : ℕ) (d : view.Done) (old : List (List (List Ask))) (new : ViewDomain) (queues : List (List (List Ask))) : Type 0 where

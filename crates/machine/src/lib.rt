@@ -6,6 +6,7 @@ pub mod bases;
 pub mod deliveries;
 pub mod machine;
 pub mod orders;
+pub mod stages;
 pub mod starts;
 pub mod stops;
 mod turns;

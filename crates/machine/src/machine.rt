@@ -28,6 +28,8 @@ pub struct Machine<'p, F: Fronts> {
     pub to_view: Queues<StagePacket<F>>,
     /// Requests from each view shard to each stage shard.
     pub from_view: Queues<Request>,
+    /// Requests from each stage shard to each source.
+    pub to_base: Queues<Request>,
     /// The sessions.
     pub callers: Vec<Caller>,
 }

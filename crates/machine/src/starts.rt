@@ -160,6 +160,7 @@ pub fn new_machine<'p, F: Fronts>(
         to_stage: Queues::new(alloc, plan.stages(), sources)?,
         to_view: Queues::new(alloc, readers, plan.stages())?,
         from_view: Queues::new(alloc, plan.stages(), readers)?,
+        to_base: Queues::new(alloc, sources, plan.stages())?,
         places,
         bases,
         stages,

@@ -1,6 +1,7 @@
 //! One message to one domain: what it makes of the domain, and of the queues that it sends to.
 ghost use Rattle.std.specs.Prelude.{◌≡◌, ◌≢◌, false, length, Some, IfOk, OnOk, IsFalse};
 ghost use Rattle.model.specs.Legal.{most_sessions};
+ghost use Rattle.model.specs.Places.{sources};
 ghost use Rattle.packet.specs.Codes.{marks_in};
 ghost use Rattle.packet.specs.Readers.{readers};
 ghost use Rattle.packet.specs.declared.mode.Mode.TheVariants.{Running};
@@ -30,35 +31,44 @@ use packet::stage_packet::StagePacket;
 use row::refused::Refused;
 use schedule::queues::Queues;
 use stage_domain::message::ToStage;
+use stage_domain::outbox::StageOutbox;
 use stage_domain::stage_domain::StageDomain;
 use std::alloc::Global;
 use view_domain::message::ToView;
 use view_domain::outbox::ViewOutbox;
 use view_domain::view_domain::ViewDomain;
 
-/// A stage shard that runs takes a message, and what it puts out goes last on its queues. Errors:
-/// then nothing is said of the shard and the queues.
+/// A stage shard that runs takes a message, and what it puts out goes last on its queues: packets
+/// to so many view shards, and requests to so many sources. Errors: then nothing is said of the
+/// shard and the queues.
 pub(crate) fn turn_stage<'p, F: Fronts>(
     alloc: Global,
     stage: usize,
     domain: &mut StageDomain<'p, F>,
     message: ToStage<F>,
-    count: usize,
+    edges: (usize, usize),
     queues: &mut Queues<StagePacket<F>>,
+    asks: &mut Queues<Request>,
 ) -> Result<(), Refused>
     requires is { IsStageOf domain.old.plan stage domain.old }
     requires runs { domain.old.mode ≡ Running }
-    requires edges { count ≡ length (readers domain.old.plan) }
+    requires readers { edges.0 ≡ length (readers domain.old.plan) }
+    requires sources { edges.1 ≡ length (sources domain.old.plan) }
     requires meets { StageMeets F.are_one domain.old (stage_message message) }
     ensures turn { OnOk result (IsStageTurn domain.old.plan stage
         (stage_step (stage_of domain.old) (stage_message message))
-        queues.old domain.new queues.new) }
+        queues.old asks.old domain.new queues.new asks.new) }
 {
-    let Ok(mut out) = Edges::new(alloc, count) else {
+    let (readers, sources) = edges;
+    let Ok(mut out) = StageOutbox::new(alloc, readers, sources) else {
         return Err(Refused::NoMemory);
     };
     domain.receive(alloc, message, &mut out)?;
-    let Ok(()) = queues.push(alloc, stage, out) else {
+    let (packets, requests) = out.into_parts();
+    let Ok(()) = queues.push(alloc, stage, packets) else {
+        return Err(Refused::NoMemory);
+    };
+    let Ok(()) = asks.push(alloc, stage, requests) else {
         return Err(Refused::NoMemory);
     };
     Ok(())

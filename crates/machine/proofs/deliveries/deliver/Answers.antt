@@ -30,10 +30,10 @@ returns-in-AskStage g c = record {
   done = subst (λ x. IfOk c.ask_stage.result (λ r. IsDone g.F.Fronts.log g.F.Fronts.authors (delivery (world_of g.F.Fronts.log g.F.Fronts.authors (held c.args.machine.now)) (wire_in x)) (reply_of r) (held c.ask_stage.new.machine))) (sym c.in-AskStage.is) c.ask_stage.ensures.done;
 }
 
-pub no_request-requires : goal.no_request-requires
-no_request-requires g c = record { whole = c.requires.whole }
+pub ask_source-requires : goal.ask_source-requires
+ask_source-requires g c = record { whole = c.requires.whole }
 
 pub returns-in-AskSource : goal.returns-in-AskSource
 returns-in-AskSource g c = record {
-  done = subst (λ x. IsDone g.F.Fronts.log g.F.Fronts.authors (delivery (world_of g.F.Fronts.log g.F.Fronts.authors (held c.args.machine.now)) (wire_in x)) (reply_of c.no_request.result) (held c.args.machine.now)) (sym c.in-AskSource.is) (c.no_request.ensures.done c.in-AskSource.stage c.in-AskSource.source);
+  done = subst (λ x. IfOk c.ask_source.result (λ r. IsDone g.F.Fronts.log g.F.Fronts.authors (delivery (world_of g.F.Fronts.log g.F.Fronts.authors (held c.args.machine.now)) (wire_in x)) (reply_of r) (held c.ask_source.new.machine))) (sym c.in-AskSource.is) c.ask_source.ensures.done;
 }

@@ -27,6 +27,7 @@ returns g c =
       to_stage = c.in_ok-new.field-0;
       to_view = c.in_ok-new-2.field-0;
       from_view = c.in_ok-new-3.field-0;
+      to_base = c.in_ok-new-4.field-0;
       sessions = c.in_ok-callers.callers.items;
     } in
     let new : IsNew log authors p machine = record {
@@ -37,6 +38,7 @@ returns g c =
       to_stage = queues_are _ _ p.stages (length (sources p)) c.in_ok-new.field-0 c.in_ok-new.ensures c.stages.ensures lines;
       to_view = queues_are _ _ (length (readers p)) p.stages c.in_ok-new-2.field-0 c.in_ok-new-2.ensures shards c.stages-2.ensures;
       from_view = queues_are _ _ p.stages (length (readers p)) c.in_ok-new-3.field-0 c.in_ok-new-3.ensures c.stages-3.ensures shards;
+      to_base = queues_are _ _ (length (sources p)) p.stages c.in_ok-new-4.field-0 c.in_ok-new-4.ensures lines c.stages-4.ensures;
       sessions = c.in_ok-callers.ensures ∙ ap new_sessions places;
     } in
     record { world = new_world log authors p machine new; whole = new_whole log authors p machine c.keeps_profile.ensures.plan new }

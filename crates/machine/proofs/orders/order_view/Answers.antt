@@ -2,7 +2,7 @@ use Rattle.row.specs.Cells.{datum_of}
 use Rattle.protocol.specs.Views.{order}
 use Rattle.machine.specs.Machines.{held}
 use Rattle.machine.proofs.Ordered.{ordered, same_key}
-use Rattle.machine.proofs.orders.order_key.Goals as goal
+use Rattle.machine.proofs.orders.order_view.Goals as goal
 
 pub returns : goal.returns
 returns g c =
