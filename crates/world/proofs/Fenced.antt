@@ -9,8 +9,7 @@ use Rattle.protocol.specs.Worlds.{World, Caller}
 use Rattle.protocol.specs.WorldSteps.{says, with_caller, numbered, open_fence, marked, sends_fence, fence_by, lower_run, all_run}
 use Rattle.protocol.proofs.Lists.{map_get}
 use Rattle.schedule.specs.Sessions.{Session}
-use Rattle.machine.specs.Held.{Held, IsPlaced, IsDone, KnowsOwn, world_of, base_node}
-use Rattle.world.specs.Rounds.{IsAt}
+use Rattle.machine.specs.Held.{Held, IsAt, IsPlaced, IsDone, KnowsOwn, world_of, base_node}
 use Rattle.machine.proofs.Acks.{knows_still, session_world, session_placed}
 
 -- a session that has taken a number

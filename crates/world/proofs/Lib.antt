@@ -1,6 +1,6 @@
 mod Reached
 mod Rounded
-mod Based
+mod Marked
 mod Fenced
 mod Looking
 mod Counting

@@ -27,7 +27,7 @@ use Rattle.machine.specs.Held.{Held, Are, IsPlaced, IsWhole, IsDone, IsBaseOf, K
 use Rattle.world.specs.Noted.{AreLogged, IsSmall, noted}
 use Rattle.machine.specs.Turned.{IsBaseGiven, IsBaseTurn}
 use Rattle.machine.proofs.Acks.{knows_still, session_world, session_placed}
-use Rattle.world.proofs.Based.{with_base, base_world, own_turn, quiet_placed}
+use Rattle.machine.proofs.Based.{with_base, base_world, own_turn, quiet_placed}
 use Rattle.world.proofs.Fenced.{called}
 use Rattle.machine.proofs.Meeting.{stands}
 use Rattle.machine.proofs.Steps.{set_are}
@@ -200,6 +200,7 @@ module _ {F : Type 0} (log : F → LogView) (authors : F → List Author) where
             to_stage = own.queued p.to_stage;
             to_view = p.to_view;
             from_view = p.from_view;
+            to_base = p.to_base;
             sessions =
                 subst (λ t. Are (KnowsOwn (map (base_node log authors) (slice_set h.bases b new))) most_sessions (slice_set h.sessions se t)) (sym last)
                 (subst (λ ns. Are (KnowsOwn ns) most_sessions (slice_set h.sessions se (record s { own = slice_set s.own b (suc (length (base_at log authors old).authors)) }))) (sym (map_set (base_node log authors) h.bases b new)) know);

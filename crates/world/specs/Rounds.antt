@@ -4,7 +4,7 @@ use Rattle.model.specs.Fronts.{LogView}
 use Rattle.model.specs.Histories.{Author}
 use Rattle.protocol.specs.Worlds.{World}
 use Rattle.protocol.specs.WorldSteps.{Did, Round, ended_by, is_idle}
-use Rattle.machine.specs.Held.{Held, IsPlaced, IsWhole, world_of}
+use Rattle.machine.specs.Held.{Held, IsWhole, world_of}
 
 module _ {F : Type 0} (log : F → LogView) (authors : F → List Author) where
   -- one delivery has gone as the definition says: whether the edge had a message, and the sessions whose fences have ended
@@ -20,8 +20,3 @@ module _ {F : Type 0} (log : F → LogView) (authors : F → List Author) where
     pub whole : IsWhole log authors new
     pub ended : after ≡ r.ended
     pub moved : had ≡ r.moved
-
-  -- it is this world, and all is in its place
-  pub record IsAt (w : World) (new : Held F) : Type 0 where
-    pub world : world_of log authors new ≡ w
-    pub placed : IsPlaced log authors new

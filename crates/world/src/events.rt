@@ -14,7 +14,7 @@ use crate::wants::want;
 use crate::writes::write;
 use machine::deliveries::deliver;
 use machine::machine::Machine;
-use machine::orders::evict;
+use machine::orders::{evict_stage, evict_view};
 use machine::stops::stop;
 use model::fronts::Fronts;
 use plan::domain::Edge;
@@ -45,10 +45,11 @@ pub(crate) fn step<F: Fronts>(
         Event::Want { session, view, key } => want(alloc, machine, *session, view, key),
         Event::Fence { session } => fence(alloc, words, machine, *session),
         Event::Count { session, view } => Ok(count(machine, *session, view)),
-        Event::Deliver { edge } => deliver_on(alloc, machine, *edge),
-        Event::Evict { view, key } => evict(alloc, machine, view, key),
+        Event::Deliver { edge } => deliver_on(alloc, words, machine, *edge),
+        Event::EvictStage { key } => evict_stage(alloc, machine, key),
+        Event::EvictView { view, key } => evict_view(alloc, machine, view, key),
         Event::Stop { domain } => Ok(stop(machine, *domain)),
-        Event::Settle => settle(alloc, machine),
+        Event::Settle => settle(alloc, words, machine),
     }
 }
 
@@ -56,6 +57,7 @@ pub(crate) fn step<F: Fronts>(
 /// machine.
 fn deliver_on<F: Fronts>(
     alloc: Global,
+    words: &F::Words,
     machine: &mut Machine<F>,
     edge: Option<Edge>,
 ) -> Result<Reply, Refused>
@@ -68,6 +70,6 @@ fn deliver_on<F: Fronts>(
     let Some(wire) = machine.places.wire(edge) else {
         return Ok(Reply::Refused(Refused::UnknownPlace));
     };
-    let reply = deliver(alloc, machine, wire)?;
+    let reply = deliver(alloc, words, machine, wire)?;
     Ok(reply)
 }

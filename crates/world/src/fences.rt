@@ -6,9 +6,8 @@ ghost use Rattle.packet.specs.Codes.{mark_of};
 ghost use Rattle.protocol.specs.Bases.{marker as marker_to};
 ghost use Rattle.protocol.specs.WorldSteps.{all_run, base_takes, fence_by, is_up as is_node_up, lower_run, marked};
 ghost use Rattle.schedule.specs.Codes.{reply_of};
-ghost use Rattle.machine.specs.Held.{IsDone, IsPlaced, IsWhole, base_node, runs, stage_node, view_node, world_of};
+ghost use Rattle.machine.specs.Held.{IsAt, IsDone, IsPlaced, IsWhole, base_node, runs, stage_node, view_node, world_of};
 ghost use Rattle.machine.specs.Machines.{held};
-ghost use Rattle.world.specs.Rounds.{IsAt};
 
 use base_domain::base_domain::BaseDomain;
 use base_domain::message::ToBase;

@@ -45,6 +45,7 @@ fn note_ended(reply: &Reply, ended: &mut Vec<usize>) -> Result<(), Refused>
 /// machine.
 fn move_one<F: Fronts>(
     alloc: Global,
+    words: &F::Words,
     machine: &mut Machine<F>,
     wire: Wire,
     ended: &mut Vec<usize>,
@@ -55,7 +56,7 @@ fn move_one<F: Fronts>(
         (delivery (world_of F.log F.authors (held machine.old)) (wire_in wire)) ended.old.items
         moved ended.new.items (held machine.new)) }
 {
-    let reply = deliver(alloc, machine, wire)?;
+    let reply = deliver(alloc, words, machine, wire)?;
     note_ended(&reply, ended)?;
     Ok(!was_idle(&reply))
 }
@@ -71,6 +72,7 @@ fn either(had: bool, moved: bool) -> bool
 /// said of the machine.
 fn go_round<F: Fronts>(
     alloc: Global,
+    words: &F::Words,
     machine: &mut Machine<F>,
     ended: &mut Vec<usize>,
 ) -> Result<bool, Refused>
@@ -85,7 +87,7 @@ fn go_round<F: Fronts>(
     let mut moved = false;
     for at in 0..machine.places.wires().len() {
         let wire = wire_at(&machine.places, at);
-        let had = move_one(alloc, machine, wire, ended)?;
+        let had = move_one(alloc, words, machine, wire, ended)?;
         moved = either(had, moved);
     }
     Ok(moved)
@@ -101,7 +103,11 @@ fn wire_at(places: &Places, at: usize) -> Wire
 
 /// Rounds of deliveries until one finds all edges empty, at most 1,000. Errors: then nothing is
 /// said of the machine.
-pub(crate) fn settle<F: Fronts>(alloc: Global, machine: &mut Machine<F>) -> Result<Reply, Refused>
+pub(crate) fn settle<F: Fronts>(
+    alloc: Global,
+    words: &F::Words,
+    machine: &mut Machine<F>,
+) -> Result<Reply, Refused>
     requires agree { AgreeingAreOne F.are_one }
     requires whole { IsWhole F.log F.authors (held machine.old) }
     ensures done { IfOk result (λ r. IsDone F.log F.authors
@@ -110,7 +116,7 @@ pub(crate) fn settle<F: Fronts>(alloc: Global, machine: &mut Machine<F>) -> Resu
 {
     let mut ended = Vec::new(alloc);
     for at in 0..MOST {
-        let moved = go_round(alloc, machine, &mut ended)?;
+        let moved = go_round(alloc, words, machine, &mut ended)?;
         if !moved {
             return Ok(Reply::Settled(ended));
         }

@@ -3,7 +3,7 @@ use Rattle.packet.specs.Codes.{mark_of}
 use Rattle.base_domain.specs.Received.{verdict_of}
 use Rattle.machine.specs.Held.{base_node}
 use Rattle.machine.specs.Machines.{held}
-use Rattle.world.proofs.Based.{marker_lost, marker_passed}
+use Rattle.world.proofs.Marked.{marker_lost, marker_passed}
 use Rattle.machine.proofs.Meeting.{seen_there, seen_up}
 use Rattle.world.proofs.fences.give_marker.Goals as goal
 

@@ -2,7 +2,7 @@ use Rattle.std.proofs.Common.{◌≡◌, Some, slice_get, length, refl, ap, ◌�
 use Rattle.model.specs.Places.{sources}
 use Rattle.packet.specs.Codes.{mark_of}
 use Rattle.machine.specs.Machines.{held}
-use Rattle.world.proofs.Based.{mark_plan, mark_goes_on, marks_end}
+use Rattle.world.proofs.Marked.{mark_plan, mark_goes_on, marks_end}
 use Rattle.world.proofs.fences.mark_all.Goals as goal
 
 pub loop-at-preserved : goal.loop-at-preserved

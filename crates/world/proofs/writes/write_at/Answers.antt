@@ -7,7 +7,7 @@ use Rattle.schedule.specs.Codes.{reply_of}
 use Rattle.machine.specs.Held.{base_node}
 use Rattle.machine.specs.Machines.{held}
 use Rattle.machine.specs.Turned.{IsBaseGiven}
-use Rattle.world.proofs.Based.{given_plan, given_sessions}
+use Rattle.world.proofs.Marked.{given_plan, given_sessions}
 use Rattle.machine.proofs.Meeting.{seen_there, seen_up, there_at}
 use Rattle.world.proofs.Writing.{given_small, has_written, is_for, not_written}
 use Rattle.world.proofs.writes.write_at.Goals as goal
