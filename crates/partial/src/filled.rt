@@ -162,7 +162,8 @@ impl<K: Eq + Hash + Drop> Filled<K, Bag> {
     /// Takes one of a row that is there away from the key's entry, if there is one. Takes no
     /// memory. Constant time, and that of `Bag::subtract`.
     pub fn subtract(&mut self, key: &K, row: &Row)
-        requires { ForSome (lookup (K.eq key.now) self.old) (λ rows. 0 < times row_cmp row.now rows) }
+        requires { ForSome (lookup (K.eq key.now) self.old)
+            (λ rows. 0 < times row_cmp row.now rows) }
         ensures taken { (k : K) → lookup (K.eq k) self.new
             ≡ changed_at (removed row_cmp row.now) (K.eq key.now k) (lookup (K.eq k) self.old) }
         ensures order { keys_of self.new ≡ keys_of self.old }

@@ -258,12 +258,13 @@ impl<K: Eq + Hash + Drop, E: Gather> Partial<K, E> {
 }
 
 impl<K: Eq + Hash + Drop> Partial<K, Bag> {
-    /// Adds one row to the entry of a filled key; elsewhere it changes nothing. Errors: memory only;
-    /// then all is as it was. Constant time, and that of `Bag::add`.
+    /// Adds one row to the entry of a filled key; elsewhere it changes nothing. Errors: memory
+    /// only; then all is as it was. Constant time, and that of `Bag::add`.
     pub fn add(&mut self, key: &K, row: Row) -> Result<(), AllocError>
         ensures waiting { self.new ≡ record self.old { filled = self.new.filled } }
         ensures added { OnOk result ((k : K) → lookup (K.eq k) self.new.filled
-            ≡ changed_at (inserted row_cmp row) (K.eq key.now k) (lookup (K.eq k) self.old.filled)) }
+            ≡ changed_at (inserted row_cmp row) (K.eq key.now k)
+            (lookup (K.eq k) self.old.filled)) }
         ensures order { order_of self.new ≡ order_of self.old }
         ensures err { OnErr result (self.new ≡ self.old) }
     {
@@ -277,7 +278,8 @@ impl<K: Eq + Hash + Drop> Partial<K, Bag> {
             < times row_cmp row.now rows) }
         ensures waiting { self.new ≡ record self.old { filled = self.new.filled } }
         ensures taken { (k : K) → lookup (K.eq k) self.new.filled
-            ≡ changed_at (removed row_cmp row.now) (K.eq key.now k) (lookup (K.eq k) self.old.filled) }
+            ≡ changed_at (removed row_cmp row.now) (K.eq key.now k)
+            (lookup (K.eq k) self.old.filled) }
         ensures order { order_of self.new ≡ order_of self.old }
     {
         self.filled.subtract(key, row);
