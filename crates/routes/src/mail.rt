@@ -13,13 +13,14 @@ use book::front::Front;
 use book::law::Naming;
 use model::entry::Entry;
 use packet::answer::Answer;
-use packet::request::Marker;
+use packet::request::{Marker, Request};
 use packet::stage_packet::StagePacket;
 use row::value::Value;
 use std::marker::{Model, PhantomData};
 
 /// What comes to a base shard. By its type it is for the shard that it names: a write fits the
-/// shard's table, its key has the shard, and its session is one of the store's.
+/// shard's table, its key has the shard, and its session is one of the store's; a request is of a
+/// stage shard of the plan.
 #[derive(Drop)]
 pub struct BaseMail<J: Naming> {
     base: usize,
@@ -57,6 +58,18 @@ impl<J: Naming> BaseMail<J> {
         BaseMail {
             base,
             message: ToBase::Write(write),
+            of: PhantomData,
+        }
+    }
+
+    /// A request of a stage shard to a base shard.
+    pub fn request(base: usize, stage: usize, request: Request) -> BaseMail<J>
+        requires stage { stage < J.plan.stages }
+        ensures base { result.base ≡ base }
+    {
+        BaseMail {
+            base,
+            message: ToBase::Request { stage, request },
             of: PhantomData,
         }
     }

@@ -83,7 +83,11 @@ impl<J: Naming> Routes<J> {
         let (bases, stages, views) = (book.bases(), plan.stages(), readers.len());
         Ok(Routes {
             bases: inboxes(alloc, bases, stages.saturating_add(sessions))?,
-            stages: inboxes(alloc, stages, sources.len().saturating_add(views))?,
+            stages: inboxes(
+                alloc,
+                stages,
+                sources.len().saturating_add(views).saturating_add(sessions),
+            )?,
             views: inboxes(alloc, views, stages.saturating_add(sessions))?,
             replies: mailboxes(alloc, sessions)?,
             acks: mailboxes(alloc, sessions.saturating_mul(views))?,
@@ -130,7 +134,8 @@ impl<J: Naming> Routes<J> {
         self.bases.get(base)
     }
 
-    /// The inbox of a stage shard: an edge for each source, then one for each view shard.
+    /// The inbox of a stage shard: an edge for each source, then one for each view shard, then one
+    /// for each session.
     pub fn stage_inbox(&self, stage: usize) -> Option<&Inbox<ToStage<Front<J>>>> {
         self.stages.get(stage)
     }
@@ -177,6 +182,24 @@ impl<J: Naming> Routes<J> {
         put(rt, self.stages.get(stage), edge, ToStage::Request(request))
     }
 
+    /// Sends a stage shard's request to a source, as `to_base`.
+    pub fn stage_to_source<R: Wait>(
+        &self,
+        rt: &R,
+        stage: usize,
+        source: usize,
+        request: Request,
+    ) -> Result<(), Refused>
+        requires stage { stage < J.plan.stages }
+        ensures only { IfErr result (λ e. (e ≡ Refused.NoMemory) ⊎ (e ≡ Refused.Stopped)) }
+    {
+        let Some(base) = self.sources.get(source) else {
+            return Err(Refused::Stopped);
+        };
+        let mail = BaseMail::request(*base, stage, request);
+        put(rt, self.bases.get(*base), stage, mail)
+    }
+
     /// Sends a stage shard's packet to a view shard, as `to_base`.
     pub fn stage_to_view<R: Wait>(
         &self,
@@ -199,8 +222,23 @@ impl<J: Naming> Routes<J> {
         put(rt, self.views.get(reader), edge, ViewMail::Want(want))
     }
 
+    /// Sends a session's order to evict a stage key to a stage shard, as `to_base`.
+    pub fn order_stage<R: Wait>(
+        &self,
+        rt: &R,
+        session: usize,
+        stage: usize,
+        key: Value,
+    ) -> Result<(), Refused>
+        ensures only { IfErr result (λ e. (e ≡ Refused.NoMemory) ⊎ (e ≡ Refused.Stopped)) }
+    {
+        let asking = self.sources.len().saturating_add(self.views.len());
+        let edge = asking.saturating_add(session);
+        put(rt, self.stages.get(stage), edge, ToStage::Order(key))
+    }
+
     /// Sends a session's order to evict a key to a view shard, as `to_base`.
-    pub fn order<R: Wait>(
+    pub fn order_view<R: Wait>(
         &self,
         rt: &R,
         session: usize,

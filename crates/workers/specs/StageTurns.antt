@@ -1,20 +1,19 @@
 -- What becomes of one message to a stage shard.
-use Rattle.std.specs.Prelude.{◌≡◌, ◌≢◌, ◌⊎◌, ◌<◌, List, length}
+use Rattle.std.specs.Prelude.{◌≡◌, ◌≢◌, ◌⊎◌, ◌<◌, length}
 use Rattle.row.specs.declared.refused.Refused.{Refused}
 use Rattle.row.specs.declared.refused.Refused.TheVariants.{NoMemory, Gap}
-use Rattle.packet.specs.Messages.{StagePacketView}
-use Rattle.packet.specs.Outboxes.{EdgeView}
 use Rattle.packet.specs.Readers.{view_of}
 use Rattle.packet.specs.declared.mode.Mode.TheVariants.{Running}
 use Rattle.protocol.specs.Stages.{ToStage, packet, request, order}
 use Rattle.protocol.specs.StageSteps.{step}
 use Rattle.stage_domain.specs.Domains.{Domain, IsDone, IsFrom, IsNext, stage_of, stopped}
+use Rattle.stage_domain.specs.Outboxes.{OutboxView}
 
--- the message is for the stage shard: a packet is to it, from the base shard that is the source on whose edge it came; the view of a request is one of the plan
+-- the message is for the stage shard: a packet is to it, from the base shard that is the source on whose edge it came; the view of a request is one of the plan; of an order nothing is asked
 abbrev pub IsFor : Domain → ToStage → Type 0
 IsFor d (packet j k) = IsFrom d.plan d.shard j k
 IsFor d (request a) = view_of a.tag < length d.plan.views
-IsFor d (order x) = ⊥
+IsFor d (order x) = Unit {0}
 
 -- it is for the stage shard, and in turn
 pub record IsDue (d : Domain) (m : ToStage) : Type 0 where
@@ -22,7 +21,7 @@ pub record IsDue (d : Domain) (m : ToStage) : Type 0 where
   pub next : IsNext d m
 
 -- the message was due, the domain did the protocol's step, and what that puts out is on the edges
-pub record IsTaken (m : ToStage) (old : Domain) (out : List (EdgeView StagePacketView)) (new : Domain) : Type 0 where
+pub record IsTaken (m : ToStage) (old : Domain) (out : OutboxView) (new : Domain) : Type 0 where
   pub due : IsDue old m
   pub done : IsDone (step (stage_of old) m) out new
 
@@ -32,5 +31,5 @@ IsUntaken m old e new = ((e ≡ Gap) × (IsDue old m → ⊥) × (new ≡ stoppe
 
 -- the message was taken so
 pub record Went (m : ToStage) (old new : Domain) : Type 0 where
-  pub out : List (EdgeView StagePacketView)
+  pub out : OutboxView
   pub taken : IsTaken m old out new

@@ -1,33 +1,34 @@
 //! The turns of a stage shard.
 ghost use Rattle.std.specs.Prelude.{◌≡◌, ◌≢◌, ◌<◌, length, IfErr, IsErrAnd, IsFalse, IsTrue, OnErr, OnOk};
 ghost use Rattle.model.specs.Places.{sources as sources_of};
-ghost use Rattle.packet.specs.Readers.{readers, view_of};
+ghost use Rattle.packet.specs.Readers.{view_of};
 ghost use Rattle.packet.specs.declared.mode.Mode.TheVariants.{Running};
 ghost use Rattle.stage_domain.specs.Codes.{message_of};
-ghost use Rattle.stage_domain.specs.Domains.{IsFrom, IsSilent, Meets};
+ghost use Rattle.stage_domain.specs.Domains.{IsFrom, Meets};
+ghost use Rattle.stage_domain.specs.Outboxes.{AreEdges, IsSilent};
 ghost use Rattle.workers.specs.StageTurns.{IsFor, IsTaken, IsUntaken};
 ghost use Rattle.workers.specs.ViewTurns.{are_one};
 
 use book::front::Front;
 use book::law::Naming;
 use packet::base_packet::BasePacket;
-use packet::edges::Edges;
 use packet::mode::Mode;
 use packet::request::Request;
-use packet::stage_packet::StagePacket;
 use plan::plan::Plan;
 use row::refused::Refused;
 use stage_domain::message::ToStage;
+use stage_domain::outbox::StageOutbox;
 use stage_domain::stage_domain::StageDomain;
 use std::alloc::Global;
 
-/// A stage shard takes one message from its inbox into clear edges, one to each view shard.
+/// A stage shard takes one message from its inbox into a clear outbox with an edge to each view
+/// shard and to each source.
 ///
 /// With `Ok` the message was for it and in turn, the domain did the step of the protocol, and its
-/// packets are on the edges. Errors: `Gap` just where the message was not for it or a packet does
-/// not start at the front that is held of its source, and the domain has then stopped, with all
-/// else as it was; `NoMemory`, and then the domain does not run; `Stopped` where it did not run,
-/// and nothing changes. After an error nothing is on the edges. Cost: that of
+/// packets and requests are on the edges. Errors: `Gap` just where the message was not for it or a
+/// packet does not start at the front that is held of its source, and the domain has then stopped,
+/// with all else as it was; `NoMemory`, and then the domain does not run; `Stopped` where it did
+/// not run, and nothing changes. After an error nothing is on the edges. Cost: that of
 /// `StageDomain::receive`.
 pub fn take_stage<J: Naming>(
     alloc: Global,
@@ -35,12 +36,12 @@ pub fn take_stage<J: Naming>(
     sources: &[usize],
     domain: &mut StageDomain<Front<J>>,
     message: ToStage<Front<J>>,
-    out: &mut Edges<StagePacket<Front<J>>>,
+    out: &mut StageOutbox<Front<J>>,
 ) -> Result<(), Refused>
     requires plan { (plan.now ≡ J.plan) × (domain.old.plan ≡ J.plan) }
     requires sources { sources.now ≡ sources_of J.plan }
     requires clear { IsSilent out.old }
-    requires edges { length out.old ≡ length (readers J.plan) }
+    requires edges { AreEdges J.plan out.old }
     ensures done { OnOk result (IsTaken (message_of message) domain.old out.new domain.new) }
     ensures plan { OnOk result (domain.new.plan ≡ J.plan) }
     ensures not { domain.old.mode ≢ Running → IsErrAnd result (λ e. (e ≡ Refused.Stopped)
@@ -49,7 +50,7 @@ pub fn take_stage<J: Naming>(
         (message_of message) domain.old e domain.new) }
     ensures stopped { OnErr result (domain.new.mode ≢ Running) }
     ensures silent { OnErr result (IsSilent out.new) }
-    ensures edges { length out.new ≡ length (readers J.plan) }
+    ensures edges { AreEdges J.plan out.new }
 {
     if domain.mode() != Mode::Running {
         return Err(Refused::Stopped);
@@ -78,6 +79,7 @@ fn is_for<J: Naming>(
     match message {
         ToStage::Packet { source, packet } => is_from(sources, domain, *source, packet),
         ToStage::Request(request) => is_asked(plan, request),
+        ToStage::Order(_) => true,
     }
 }
 
