@@ -4,3 +4,4 @@ pub mod Reads
 pub mod Fences
 pub mod Sights
 pub mod Counts
+pub mod Orders

@@ -1,7 +1,8 @@
-//! Orders to evict a key, and counts of requests.
+//! Orders to evict a key of the stage or of a view, and counts of requests.
 ghost use Rattle.std.specs.Prelude.{◌≡◌, ◌⊎◌, IfErr, IfOk, IfSome, Some, Err};
 ghost use Rattle.row.specs.Cells.{datum_of};
 ghost use Rattle.sessions.specs.Counts.{IsCount, named_refusal};
+ghost use Rattle.sessions.specs.Orders.{order_refusal};
 ghost use Rattle.sessions.specs.Reads.{HasLooked, asked_refusal};
 
 use crate::reads::key_place;
@@ -9,12 +10,44 @@ use crate::session::Session;
 use book::law::Naming;
 use row::refused::Refused;
 use row::value::Value;
-use schedule::arguments::{read_target, view_target};
+use schedule::arguments::{read_target, stage_target, view_target};
 use schedule::wire::Spot;
 use std::alloc::Global;
 use std::sync::Wait;
 
 impl<J: Naming> Session<J> {
+    /// Orders the stage shard of a stage key to evict it. It is answered once the order is sent,
+    /// and changes nothing of the session.
+    ///
+    /// Refused with, looked for in this order: `Stolen` where the session's call numbers are spent
+    /// or its word was found moved before, `BadKey` where the key is no cell of the column that
+    /// keys the left table for the stage, `Stopped` where the stage shard or the store has stopped;
+    /// `NoMemory` at any place after `BadKey`. Cost: a copy of the key and one message.
+    pub fn evict_stage<R: Wait>(
+        &mut self,
+        rt: &R,
+        alloc: Global,
+        key: &Value,
+    ) -> Result<(), Refused>
+        ensures stays { self.new ≡ self.old }
+        ensures why { IfSome (order_refusal J.plan self.old (datum_of key.now))
+            (λ e. result ≡ Err e) }
+        ensures only { IfErr result (λ e. (order_refusal J.plan self.old (datum_of key.now)
+            ≡ Some e) ⊎ (e ≡ Refused.Stopped) ⊎ (e ≡ Refused.NoMemory)) }
+    {
+        if self.is_spent() {
+            return Err(Refused::Stolen);
+        }
+        let stage = stage_target(self.plan(), key)?;
+        if self.routes.has_stopped(Spot::Stage(stage)) {
+            return Err(Refused::Stopped);
+        }
+        let Ok(key) = key.try_clone(alloc) else {
+            return Err(Refused::NoMemory);
+        };
+        self.routes.order_stage(rt, self.word.number(), stage, key)
+    }
+
     /// Orders the key's view shard to evict a key of a view. It is answered once the order is sent,
     /// and changes nothing of the session.
     ///
@@ -46,7 +79,7 @@ impl<J: Naming> Session<J> {
         let Ok(key) = key.try_clone(alloc) else {
             return Err(Refused::NoMemory);
         };
-        self.routes.order(rt, self.word.number(), place, key)
+        self.routes.order_view(rt, self.word.number(), place, key)
     }
 
     /// How many requests the shards of a view had sent, in all, as they are now shown; at most the
