@@ -18,14 +18,25 @@ pub fn event_of(alloc: Global, plan: &Plan, line: &str) -> Result<Option<Event>,
         "stop" if words.len() == 2 => Ok(Some(Event::Stop {
             domain: plan.domain_named(alloc, text(&words, 1))?,
         })),
-        "evict" if words.len() == 4 && text(&words, 1) == "view" => Ok(Some(Event::Evict {
-            view: String::from_str(alloc, text(&words, 2))?,
-            key: key_of(alloc, plan, text(&words, 2), text(&words, 3))?,
-        })),
+        "evict" => order_of(alloc, plan, &words),
         session => match number(session) {
             Some(session) => call_of(alloc, plan, session, &words),
             None => Ok(None),
         },
+    }
+}
+
+// The order of `evict stage KEY` or `evict view VIEW KEY`.
+fn order_of(alloc: Global, plan: &Plan, words: &[String]) -> Result<Option<Event>, AllocError> {
+    match (text(words, 1), words.len()) {
+        ("stage", 3) => Ok(Some(Event::EvictStage {
+            key: left_cell(alloc, plan, plan.left().key(), text(words, 2))?,
+        })),
+        ("view", 4) => Ok(Some(Event::EvictView {
+            view: String::from_str(alloc, text(words, 2))?,
+            key: key_of(alloc, plan, text(words, 2), text(words, 3))?,
+        })),
+        _ => Ok(None),
     }
 }
 
@@ -110,9 +121,13 @@ fn key_column(plan: &Plan, table: usize) -> usize {
 fn key_of(alloc: Global, plan: &Plan, view: &str, word: &str) -> Result<Value, AllocError> {
     let view = plan.view_named(view).unwrap_or(0);
     if view < plan.views() {
-        let kind = kind_at(plan, plan.left().table(), plan.view(view).key());
-        cell_of(alloc, kind, word)
+        left_cell(alloc, plan, plan.view(view).key(), word)
     } else {
         cell_of(alloc, Kind::Int, word)
     }
+}
+
+// A cell of a column of the left table.
+fn left_cell(alloc: Global, plan: &Plan, column: usize, word: &str) -> Result<Value, AllocError> {
+    cell_of(alloc, kind_at(plan, plan.left().table(), column), word)
 }
