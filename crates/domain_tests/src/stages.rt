@@ -9,24 +9,25 @@ ghost use Rattle.domain_tests.specs.Notes.{first_stage, IsForFirst, IsOfNotes};
 use crate::notes::{AUTHOR, MARKER, Notes};
 use model::fronts::Fronts;
 use packet::base_packet::BasePacket;
-use packet::edges::Edges;
 use packet::mode::Mode;
 use packet::request::Request;
 use packet::stage_packet::StagePacket;
 use plan::domain::Tag;
 use row::refused::Refused;
 use stage_domain::message::ToStage;
+use stage_domain::outbox::StageOutbox;
 use stage_domain::stage_domain::StageDomain;
 use std::alloc::{AllocError, Global};
 
 /// What comes to the stage shard without a note: the first note, a marker, a marker behind the
-/// note, or a request of the notes of the author.
+/// note, a request of the notes of the author, or an order to evict a key.
 #[derive(Clone, Copy)]
 enum Told {
     Note,
     Marker,
     LaterMarker,
     Ask,
+    Order,
 }
 
 /// What a packet carries: how many changes, how many rows in a piece, and whether a marker.
@@ -61,6 +62,7 @@ fn message<'p, F: Fronts>(
         Told::Marker => from_base(notes, notes.marker(alloc, false)),
         Told::LaterMarker => from_base(notes, notes.marker(alloc, true)),
         Told::Ask => Ok(request()),
+        Told::Order => Ok(ToStage::Order(AUTHOR)),
     }
 }
 
@@ -108,9 +110,9 @@ fn put_out<'p, F: Fronts>(
     requires plan { domain.old.plan ≡ notes_plan }
     requires meets { Meets F.are_one domain.old (message_of message) }
 {
-    let mut out = Edges::new(alloc, 1)?;
+    let mut out = StageOutbox::new(alloc, 1, 1)?;
     domain.receive(alloc, message, &mut out)?;
-    Ok(carried_by(out.take(alloc, 0)))
+    Ok(carried_by(out.take_packets(alloc, 0)))
 }
 
 // What it is made to put out by what it is told first.
@@ -150,7 +152,7 @@ fn has_stopped<'p, F: Fronts>(
 fn finds_a_gap<'p, F: Fronts>(alloc: Global, notes: &Notes<'p, F>) -> Result<bool, Refused> {
     let message = message(alloc, notes, Told::LaterMarker)?;
     let mut domain = first_stage(alloc, notes)?;
-    let mut out = Edges::new(alloc, 1)?;
+    let mut out = StageOutbox::new(alloc, 1, 1)?;
     match domain.receive(alloc, message, &mut out) {
         Err(Refused::Gap) => has_stopped(alloc, &mut domain),
         Err(refused) => Err(refused),
@@ -165,5 +167,6 @@ pub fn takes_each<'p, F: Fronts>(alloc: Global, notes: &Notes<'p, F>) -> Result<
             return Ok(false);
         }
     }
-    Ok(stops(alloc, notes)? && finds_a_gap(alloc, notes)?)
+    let evicts = tells(alloc, notes, Told::Order)?.is_some();
+    Ok(!evicts && stops(alloc, notes)? && finds_a_gap(alloc, notes)?)
 }
