@@ -13,6 +13,10 @@ kind_at p (Some i) = (column_at (table_at p p.left.table) (view_at p i).key).kin
 abbrev pub kind_of_key : Layout → List ℕ → Kind
 kind_of_key p view = kind_at p (view_named p view)
 
+-- the kind of the column that keys the left table for the stage
+abbrev pub kind_of_stage_key : Layout → Kind
+kind_of_stage_key p = (column_at (table_at p p.left.table) p.left.key).kind
+
 -- the kind of the key column of the table at the place; of no table it is a text
 abbrev pub kind_in : Layout → Option ℕ → Kind
 kind_in p None = Text

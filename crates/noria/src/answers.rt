@@ -1,6 +1,7 @@
 //! A call of a script: what a session makes of it, and the lines of its answer.
 use crate::fault::Fault;
-use crate::reads::{evict, look, write_found};
+use crate::orders::{evict_stage, evict_view};
+use crate::reads::{look, write_found};
 use crate::writes::{Words, write};
 use book::law::Naming;
 use row::refused::Refused;
@@ -53,8 +54,12 @@ pub fn make<J: Naming, R: Wait>(
             let found = look(rt, alloc, session, true, view.as_str(), key)?;
             Ok(Answered::Found(found))
         }
-        Command::Evict { view, key } => {
-            evict(rt, alloc, session, view.as_str(), key)?;
+        Command::EvictStage { key } => {
+            evict_stage(rt, alloc, session, key)?;
+            Ok(Answered::Sent)
+        }
+        Command::EvictView { view, key } => {
+            evict_view(rt, alloc, session, view.as_str(), key)?;
             Ok(Answered::Sent)
         }
         Command::Count { view } => Ok(Answered::Asked(session.asked(view.as_str())?)),

@@ -5,6 +5,7 @@ mod answers;
 mod command;
 mod fault;
 mod files;
+mod orders;
 mod play;
 mod race;
 mod reads;

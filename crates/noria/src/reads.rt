@@ -30,21 +30,9 @@ pub fn look<J: Naming, R: Wait>(
     }
 }
 
-/// Orders the view's shard to forget the key that the word is.
-pub fn evict<J: Naming, R: Wait>(
-    rt: &R,
-    alloc: Global,
-    session: &mut Session<J>,
-    view: &str,
-    word: String,
-) -> Result<(), Refused> {
-    let key = value_of(alloc, kind_of_key(session.plan(), view), word)?;
-    session.evict_view(rt, alloc, view, &key)
-}
-
-// The kind by which a key of the view is read: that of its key column, and a text where there is no
-// such view.
-fn kind_of_key(plan: &Plan, view: &str) -> Kind
+/// The kind by which a key of the view is read: that of its key column, and a text where there is
+/// no such view.
+pub fn kind_of_key(plan: &Plan, view: &str) -> Kind
     ensures { result ≡ kind_of_key plan.now view.now }
 {
     plan.keeps_profile();

@@ -2,7 +2,7 @@
 use Rattle.std.proofs.Common.{◌≡◌, ◌==◌, cond, ℕ, ◌+◌, ◌<◌, inl, inr, List, [], ◌∷◌, ◌++◌, length, Option, Some, None, refl, ap, sym, subst, ◌∙◌, arith, append_assoc}
 use Rattle.std.proofs.lemmas.List.{append-nil, length-append}
 use Rattle.script.specs.Words.{IsLine}
-use Rattle.script.specs.Commands.{Action, insert, update, delete, fence, try, read, closing, evict, count, Asks}
+use Rattle.script.specs.Commands.{Action, insert, update, delete, fence, try, read, closing, evict_stage, evict_view, count, Asks}
 use Rattle.script.specs.Scripts.{IsComment, Says, Numbered, call_at, IsScript, IsFault, IsFirstFault}
 use Rattle.script.proofs.Scan.{line_once}
 
@@ -15,7 +15,8 @@ asks_some fence a = cc a
 asks_some (try view key) a = cc a
 asks_some (read view key) a = cc a
 asks_some (closing view key) a = cc a
-asks_some (evict view key) a = cc a
+asks_some (evict_stage key) a = cc a
+asks_some (evict_view view key) a = cc a
 asks_some (count view) a = cc a
 
 -- names of commands have first bytes of their own
@@ -24,8 +25,8 @@ first_byte [] = 0
 first_byte (b ∷ bs) = b
 
 abbrev evicted : List ℕ → List (List ℕ) → Action
-evicted view [] = fence
-evicted view (key ∷ ys) = evict view key
+evicted key [] = evict_stage key
+evicted view (key ∷ ys) = evict_view view key
 
 abbrev named : ℕ → (x y : List ℕ) → (ys : List (List ℕ)) → Action
 named b x y ys = cond (b == 105) (insert x (y ∷ ys)) (cond (b == 117) (update x (y ∷ ys)) (cond (b == 100) (delete x y) (cond (b == 116) (try x y) (cond (b == 114) (read x y) (cond (b == 99) (closing x y) (evicted y ys))))))
@@ -47,7 +48,8 @@ asks_asked words fence is = ap asked is
 asks_asked words (try view key) is = ap asked is
 asks_asked words (read view key) is = ap asked is
 asks_asked words (closing view key) is = ap asked is
-asks_asked words (evict view key) is = ap asked is
+asks_asked words (evict_stage key) is = ap asked is
+asks_asked words (evict_view view key) is = ap asked is
 asks_asked words (count view) is = ap asked is
 
 -- the same words ask for one action

@@ -19,8 +19,10 @@ pub enum Command {
     Read { view: String, key: String },
     /// `closing VIEW KEY`: a `read` at the end of what is run.
     Closing { view: String, key: String },
+    /// `evict stage KEY`: the stage shard is to forget the rows of the stage key.
+    EvictStage { key: String },
     /// `evict view VIEW KEY`: the view shard is to forget the rows of the key.
-    Evict { view: String, key: String },
+    EvictView { view: String, key: String },
     /// `count VIEW`: how many requests the shards of the view have sent.
     Count { view: String },
 }
@@ -49,7 +51,8 @@ impl Command {
             "try" => name_and_key(words).map(|(view, key)| Command::Try { view, key }),
             "read" => name_and_key(words).map(|(view, key)| Command::Read { view, key }),
             "closing" => name_and_key(words).map(|(view, key)| Command::Closing { view, key }),
-            "evict" => view_and_key(words).map(|(view, key)| Command::Evict { view, key }),
+            "evict" if words.len() == 2 => stage_key(words).map(|key| Command::EvictStage { key }),
+            "evict" => view_and_key(words).map(|(view, key)| Command::EvictView { view, key }),
             "count" => only_name(words).map(|view| Command::Count { view }),
             _ => None,
         }
@@ -84,6 +87,20 @@ fn name_and_key(mut operands: Vec<String>) -> Option<(String, String)>
     let key = operands.remove(1);
     let name = operands.remove(0);
     Some((name, key))
+}
+
+// The key of the operands `stage KEY`.
+fn stage_key(operands: Vec<String>) -> Option<String>
+    ensures some { IfSome result (λ key. map string_bytes operands.items
+        ≡ codes "stage" ∷ string_bytes key ∷ []) }
+    ensures none { IsNone result → (key : List ℕ)
+        → map string_bytes operands.items ≢ codes "stage" ∷ key ∷ [] }
+{
+    let (place, key) = name_and_key(operands)?;
+    if place.as_str() != "stage" {
+        return None;
+    }
+    Some(key)
 }
 
 // The operands `view VIEW KEY`.
