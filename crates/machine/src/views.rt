@@ -24,11 +24,12 @@ use view_domain::view_domain::ViewDomain;
 pub fn cut_lengths<F: Fronts>(alloc: Global, view: &ViewDomain<F>) -> Result<Lengths, AllocError>
     ensures { IfOk result (λ c. c ≡ lengths_of (lines_of view.now.cut)) }
 {
-    let mut lines = Vec::new(alloc);
+    let mut cut = Lengths::empty(alloc);
     for line in view.cut() {
-        lines.push(line.lengths(alloc)?)?;
+        let lengths = line.lengths(alloc)?;
+        cut.push_line(alloc, lengths.as_slice())?;
     }
-    Ok(Lengths::new(lines))
+    Ok(cut)
 }
 
 /// A view shard acknowledges a fence with its cut. Errors: then nothing is said of the machine.

@@ -1,15 +1,17 @@
 //! Lengths of the sources' logs, one for each stage shard and source.
-ghost use Rattle.std.specs.Prelude.{◌≡◌, ◌≢◌, ◌<◌, [], IsTrue, IsFalse, length, map, replicate, slice_index_or, IfOk};
+ghost use Rattle.std.specs.Prelude.{◌≡◌, ◌≢◌, ◌<◌, [], ◌∷◌, ◌++◌, IsTrue, IsFalse, length, map, replicate, slice_index_or, IfOk, OnOk, OnErr};
 ghost use Rattle.model.specs.Histories.{len_at};
 ghost use Rattle.model.specs.Tables.{with_length};
 
+use smallvec::SmallVec;
 use std::alloc::{AllocError, Global};
 use std::marker::Model;
 
-/// A length for each stage shard and each source.
+/// A length for each stage shard and each source. Those of up to two stage shards and four sources
+/// lie in the value itself, so that a copy of them takes no memory.
 #[derive(Drop)]
 pub struct Lengths {
-    pub(crate) lines: Vec<Vec<u64>>,
+    pub(crate) lines: SmallVec<SmallVec<u64, 4>, 2>,
 }
 
 impl Model for Lengths {
@@ -22,13 +24,6 @@ impl Model for Lengths {
 }
 
 impl Lengths {
-    /// The cut of these lines, one for each stage shard, of whatever lengths. Takes no memory.
-    pub fn new(lines: Vec<Vec<u64>>) -> Lengths
-        ensures { result ≡ map (λ l. l.items) lines.items }
-    {
-        Lengths { lines }
-    }
-
     /// For how many stage shards it has a line.
     pub fn stages(&self) -> usize
         ensures { result ≡ length self.now }
@@ -51,30 +46,40 @@ impl Lengths {
         ensures { result ≡ [] }
     {
         Lengths {
-            lines: Vec::new(alloc),
+            lines: SmallVec::new(alloc),
         }
+    }
+
+    /// One more line, of whatever length, for the next stage shard. Errors: memory only, and then
+    /// nothing changes.
+    pub fn push_line(&mut self, alloc: Global, line: &[u64]) -> Result<(), AllocError>
+        ensures ok { OnOk result (self.new ≡ self.old ++ line.now ∷ []) }
+        ensures err { OnErr result (self.new ≡ self.old) }
+    {
+        self.lines.push(SmallVec::from_slice(alloc, line)?)?;
+        Ok(())
     }
 
     /// The same lengths of the sources for each of so many stage shards. Errors: memory only.
     pub fn even(alloc: Global, stages: usize, line: &[u64]) -> Result<Lengths, AllocError>
         ensures { IfOk result (λ c. c ≡ replicate stages line.now) }
     {
-        let mut lines = Vec::new(alloc);
+        let mut lengths = Lengths::empty(alloc);
         for _stage in 0..stages {
-            lines.push(Vec::from_slice(alloc, line)?)?;
+            lengths.push_line(alloc, line)?;
         }
-        Ok(Lengths { lines })
+        Ok(lengths)
     }
 
     /// The same lengths in memory of their own. Errors: memory only.
     pub fn try_clone(&self, alloc: Global) -> Result<Lengths, AllocError>
         ensures { IfOk result (λ c. c ≡ self.now) }
     {
-        let mut lines = Vec::new(alloc);
-        for line in &self.lines {
-            lines.push(Vec::from_slice(alloc, line.as_slice())?)?;
+        let mut lengths = Lengths::empty(alloc);
+        for line in self.lines.as_slice() {
+            lengths.push_line(alloc, line.as_slice())?;
         }
-        Ok(Lengths { lines })
+        Ok(lengths)
     }
 
     /// The length of a source at a stage shard, 0 where there is none.

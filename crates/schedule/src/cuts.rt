@@ -99,11 +99,12 @@ fn greatest_line(
 fn greatest(alloc: Global, places: &Places, a: &Lengths, b: &Lengths) -> Result<Lengths, AllocError>
     ensures { IfOk result (λ c. c ≡ greatest places.now a.now b.now) }
 {
-    let mut lines = Vec::new(alloc);
+    let mut cut = Lengths::empty(alloc);
     for stage in 0..places.plan().stages() {
-        lines.push(greatest_line(alloc, places, a, b, stage)?)?;
+        let line = greatest_line(alloc, places, a, b, stage)?;
+        cut.push_line(alloc, line.as_slice())?;
     }
-    Ok(Lengths::new(lines))
+    Ok(cut)
 }
 
 /// Raises the floor at a view shard by a cut, if there is the floor.
