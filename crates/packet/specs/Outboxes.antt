@@ -33,6 +33,10 @@ with_packet x e = record { packets = e.packets ++ x ∷ []; room = e.room - 1 }
 abbrev pub with_packet_on : {P : Type 0} → ℕ → P → List (EdgeView P) → List (EdgeView P)
 with_packet_on i x edges = slice_set edges i (with_packet x (slice_index_or edges i no_edge))
 
+-- the packets of each edge, with one more behind those of edge i
+abbrev pub with_one : {P : Type 0} → ℕ → P → List (List P) → List (List P)
+with_one i x packets = slice_set packets i (slice_index_or packets i [] ++ x ∷ [])
+
 -- of a base domain: the edge to each stage shard, and the reply to a write
 pub record OutboxView (F : Type 0) : Type 0 where
   pub edges : List (EdgeView BasePacketView)

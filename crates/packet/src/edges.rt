@@ -1,7 +1,7 @@
 //! What is put out on edges.
 ghost use Rattle.std.specs.Prelude.{◌≡◌, ◌<◌, [], ◌∷◌, map, length, slice_index_or, slice_set, IfOk, OnOk, OnErr, IsOkUnless};
 ghost use Rattle.packet.specs.Messages.{none_of, to_one};
-ghost use Rattle.packet.specs.Outboxes.{HaveRoom, no_edge, packets_on, with_packet, with_packet_on};
+ghost use Rattle.packet.specs.Outboxes.{HaveRoom, no_edge, packets_on, with_one, with_packet, with_packet_on};
 
 use row::refused::Refused;
 use std::alloc::{AllocError, Global};
@@ -56,6 +56,13 @@ impl<P: Drop> Edge<P> {
         ensures { self.new.packets ≡ packets.items }
     {
         self.packets = packets;
+    }
+
+    /// Drops what is on it.
+    fn clear(&mut self)
+        ensures { self.new.packets ≡ [] }
+    {
+        self.packets.clear();
     }
 
     /// All that is on it, moved out of it.
@@ -130,6 +137,30 @@ impl<P: Drop> Edges<P> {
         ensures { self.new ≡ with_packet_on edge packet self.old }
     {
         self.edges[edge].push(packet);
+    }
+
+    /// Puts a packet behind the others on an edge. `NoMemory` leaves what is on the edges as it was.
+    pub fn append(&mut self, edge: usize, packet: P) -> Result<(), Refused>
+        requires edge { edge < length self.old }
+        ensures only { IsOkUnless result Refused.NoMemory }
+        ensures packets { OnOk result (packets_on self.new
+            ≡ with_one edge packet (packets_on self.old)) }
+        ensures err { OnErr result (packets_on self.new ≡ packets_on self.old) }
+        ensures edges { length self.new ≡ length self.old }
+    {
+        self.edges[edge].reserve()?;
+        self.push(edge, packet);
+        Ok(())
+    }
+
+    /// Drops all that is on the edges. It takes no memory.
+    pub fn clear(&mut self)
+        ensures packets { packets_on self.new ≡ none_of self.new }
+        ensures edges { length self.new ≡ length self.old }
+    {
+        for edge in 0..self.edges.len() {
+            self.edges[edge].clear();
+        }
     }
 
     /// Puts a packet on one edge, and nothing on the others. `NoMemory` leaves all edges clear.
