@@ -16,7 +16,7 @@ use Rattle.row.proofs.BagChanges.{IsAscending-with_records}
 use Rattle.row.proofs.BagLemmas.{Each-inserted, Each-removed}
 use Rattle.plan.specs.declared.kinds.Aggregate.{Aggregate}
 use Rattle.ops.specs.SideRows.{fits_64_bits}
-use Rattle.partial.specs.States.{State, Hole, Waiting, Filled, state_of, is_waiting, is_filled, after_change, piece_changed, ChangeFits, OthersStay}
+use Rattle.partial.specs.States.{State, Hole, Waiting, Filled, entry_of, state_of, is_waiting, is_filled, after_change, piece_changed, ChangeFits, OthersStay}
 use Rattle.partial.specs.BagLaws.{total_changes, total_fits}
 use Rattle.partial.specs.Sums.{sum_of_bags}
 use Rattle.partial.specs.Truth.{IsTrueOf}
@@ -190,3 +190,9 @@ pub piece_keeps : (s : ℕ) (rs : List Record) (st : State (List Cells)) (parts 
 piece_keeps s rs Hole parts part f here fit t = tt
 piece_keeps s rs (Waiting pieces) parts part f here fit t = change_keeps with_records IsCovered sum_of_bags total_changes total_fits parts s part rs (Waiting pieces) here fit t
 piece_keeps s rs (Filled rows) parts part f here fit t = absurd (true≢false f)
+
+-- a filled key has what it had, and no other is filled
+pub entry_stays : (s : ℕ) (rs : List Record) (st : State (List Cells)) → entry_of (piece_after s rs st) ≡ entry_of st
+entry_stays s rs Hole = refl
+entry_stays s rs (Waiting pieces) = refl
+entry_stays s rs (Filled rows) = refl

@@ -1,6 +1,7 @@
 -- The right rows of a stage shard: those of some stage keys, and the pieces in hand of keys that wait.
 use Rattle.std.specs.Prelude.{Bool, false, ◌≡◌, ℕ, true, List, [], ◌∷◌, map, filter, cond, Option, Some, None}
 use Rattle.std.specs.Map.{lookup, values_of}
+use Rattle.std.specs.Option.{option_map}
 use Rattle.row.specs.Bags.{Each, IsAscending, joined, sorted}
 use Rattle.row.specs.Cells.{Datum, Cells, datum_of, has, row_cmp, same}
 use Rattle.row.specs.BagChanges.{with_records}
@@ -11,7 +12,7 @@ use Rattle.row.specs.declared.value.Value.{Value}
 use Rattle.plan.specs.declared.kinds.Aggregate.{Aggregate}
 use Rattle.ops.specs.SideRows.{Rows, fits_64_bits, is_here}
 use Rattle.partial.specs.States.{State, Hole, Waiting, Filled, Kept, ChangeFits, after_change, state_of, state_from, order_of}
-use Rattle.packet.specs.Keys.{by_datum}
+use Rattle.packet.specs.Keys.{Keys, by_datum, stand_of}
 
 -- the column of the stage key, the aggregate that is read of the rows, and what is kept for keys
 pub record RightView : Type 0 where
@@ -30,6 +31,7 @@ side_of r = record {
   aggregate = r.aggregate;
   rows = filled_rows r.kept;
   keys = Some (map datum_of (order_of r.kept));
+  sources = r.kept.sources;
   waiting = by_datum r.kept.waiting;
 }
 
@@ -59,6 +61,10 @@ pub record AreKeyed (column : ℕ) (aggregate : Option Aggregate) (kept : Kept V
 -- what is kept at a key, by what a stage reads: the rows of a key that is here are those that have it in the column
 abbrev pub state_in : Rows → Datum → State (List Cells)
 state_in i k = state_from (lookup (same k) i.waiting) (cond (is_here i k) (Some (filter (has i.column k) i.rows)) None)
+
+-- how the keys of a side stand whose rows are here by key
+abbrev pub keys_in : Rows → Option Keys
+keys_in i = option_map (λ order. record { at = λ k. stand_of (state_in i k); order = order }) i.keys
 
 -- what is kept at k, changed by f where k is the key
 abbrev pub only_at : Datum → (State (List Cells) → State (List Cells)) → Datum → State (List Cells) → State (List Cells)
