@@ -1,5 +1,4 @@
 pub mod Founds
-pub mod Exact
 pub mod Pieces
 pub mod Keeps
 pub mod Steps

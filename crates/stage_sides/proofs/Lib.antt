@@ -1,0 +1,10 @@
+pub mod Founds
+pub mod Exact
+pub mod Pieces
+pub mod Keeps
+pub mod Steps
+pub mod Views
+pub mod HeldSteps
+pub mod Sets
+pub mod RightSteps
+pub mod RightChange

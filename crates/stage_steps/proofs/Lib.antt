@@ -1,0 +1,10 @@
+pub mod Places
+pub mod Readers
+pub mod Beside
+pub mod Lines
+pub mod Appends
+pub mod Words
+pub mod Asks
+pub mod Puts
+pub mod Names
+pub mod Truths

@@ -1,0 +1,4 @@
+pub mod Told
+pub mod Outboxes
+pub mod Sides
+pub mod Shards

@@ -1,0 +1,97 @@
+-- What a stage shard holds, and what a part of a step makes of it.
+use Rattle.std.specs.Prelude.{◌≡◌, ◌<◌, ◌∷◌, ℕ, cond, drop, false, length, List, [], map, None, Option, Some}
+use Rattle.row.specs.Cells.{Datum, datum_cmp, datum_of, row_cmp}
+use Rattle.row.specs.Bags.{Each, IsAlike, sorted}
+use Rattle.row.specs.declared.value.Value.{Value}
+use Rattle.plan.specs.Layouts.{Layout, SideLayout, ViewLayout}
+use Rattle.plan.specs.Outputs.{keys_of}
+use Rattle.model.specs.Fronts.{LogView}
+use Rattle.model.specs.Places.{side_count, sources}
+use Rattle.model.specs.Queries.{Line, left}
+use Rattle.ops.specs.SideRows.{Rows}
+use Rattle.partial.specs.Sums.{sum_of_bags}
+use Rattle.partial.specs.Truth.{IsTrueOf}
+use Rattle.packet.specs.Lines.{AreOf, entries_of}
+use Rattle.packet.specs.Marks.{MarksView}
+use Rattle.packet.specs.Messages.{Ask, StagePacketView}
+use Rattle.packet.specs.Outboxes.{EdgeView, packets_on}
+use Rattle.packet.specs.Readers.{Reader, is_of, readers, view_of}
+use Rattle.packet.specs.Truth.{IsLine, Pointwise, right_shares, sent_of}
+use Rattle.protocol.specs.StageSteps.{put, right_count, with_piece}
+use Rattle.protocol.specs.Stages.{Done, Stage, of_stage_key}
+use Rattle.right_rows.specs.Rights.{keys_in, state_in}
+use Rattle.stage_sides.specs.Held.{AreFound, Held}
+use Rattle.stage_steps.specs.Outboxes.{OutboxView}
+use Rattle.stage_steps.specs.Told.{perhaps, told_if}
+
+-- a front of each source, its rows, the requests that wait, and the markers that have not come from all sources
+pub record Shard : Type 0 where
+  pub plan : Layout
+  pub shard : ℕ
+  pub line : List LogView
+  pub rows : Held
+  pub pending : List Ask
+  pub marks : MarksView
+
+-- as far as keys go
+abbrev pub stage_of : Shard → Stage
+stage_of x = record { plan = x.plan; shard = x.shard; line = entries_of x.line; right = keys_in x.rows.right; pending = x.pending; asked = None; marks = x.marks.waiting }
+
+-- ---- the truth over its line
+-- what is kept at each stage key is true of the parts that the right sources have at these fronts; with no right side there is none
+abbrev pub HoldsRight : Layout → ℕ → Option SideLayout → Line → Rows → Type 0
+HoldsRight p s None fronts right = right.keys ≡ None
+HoldsRight p s (Some side) fronts right = (right.sources ≡ right_count p) × ((k : Value) → IsTrueOf sum_of_bags (right_shares p s side (datum_of k) fronts) (state_in right (datum_of k)))
+
+-- its rows are those of stage shard s over the line
+pub record HoldsRows (p : Layout) (s : ℕ) (line : Line) (rows : Held) : Type 0 where
+  pub plan : rows.plan ≡ p
+  pub found : AreFound rows
+  pub lefts : IsAlike row_cmp rows.lefts (left p s line)
+  pub right : HoldsRight p s p.right (drop (side_count p p.left) line) rows.right
+
+-- a stage shard of its plan, with the rows of its line; the requests that wait are of views
+pub record IsShard (x : Shard) : Type 0 where
+  pub shard : x.shard < x.plan.stages
+  pub of : AreOf x.plan x.line
+  pub fronts : IsLine x.plan (entries_of x.line)
+  pub senders : x.marks.senders ≡ length (sources x.plan)
+  pub rows : HoldsRows x.plan x.shard (entries_of x.line) x.rows
+  pub pending : Each (λ (a : Ask). view_of a.tag < length x.plan.views) x.pending
+
+-- ---- what is put out
+-- the packet is from stage shard s to this reader
+pub record IsTo (p : Layout) (s : ℕ) (r : Reader) (x : StagePacketView) : Type 0 where
+  pub plan : x.plan ≡ p
+  pub stage : x.stage ≡ s
+  pub view : x.view ≡ r.view
+  pub shard : x.shard ≡ r.shard
+
+-- each packet is to the reader of its edge
+abbrev pub AreTo : Layout → ℕ → List (EdgeView StagePacketView) → Type 0
+AreTo p s out = Pointwise (λ r xs. Each (IsTo p s r) xs) (readers p) (packets_on out)
+
+-- so far all went as the protocol says
+pub record IsPut (d : Done) (out : OutboxView) (x : Shard) : Type 0 where
+  pub stage : stage_of x ≡ d.stage
+  pub sent : map (map sent_of) (packets_on out.packets) ≡ d.sent
+  pub asks : packets_on out.requests ≡ d.requests
+  pub to : AreTo x.plan x.shard out.packets
+
+-- it is the same shard of the same plan
+pub record IsSame (old new : Shard) : Type 0 where
+  pub plan : new.plan ≡ old.plan
+  pub shard : new.shard ≡ old.shard
+
+-- ---- parts of a step
+-- an answer to a request
+abbrev pub given : Stage → Ask → Done
+given s a = put s (λ asked r. cond (is_of s.plan (view_of a.tag) a.key r) (with_piece s.line a.key ∷ []) [])
+
+-- the names for each view of the left rows of stage key k
+abbrev pub gone_names : Shard → Datum → List (List Datum)
+gone_names x k = map (λ (v : ViewLayout). sorted datum_cmp (keys_of v.key (of_stage_key (stage_of x) k))) x.plan.views
+
+-- what each view shard is told as stage key k goes
+abbrev pub gone_to : Shard → Datum → Reader → List StagePacketView
+gone_to x k r = perhaps (told_if false x.plan x.shard (entries_of x.line) (entries_of x.line) [] (gone_names x k) None r)

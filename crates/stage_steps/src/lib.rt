@@ -1,0 +1,9 @@
+//! The steps of a stage shard: what one message makes of its rows, of the requests that wait, and of
+//! what it puts out.
+#![tactic(auto)]
+
+mod edges;
+mod keyed;
+pub mod outbox;
+mod packets;
+pub mod shard;
