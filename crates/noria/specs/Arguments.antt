@@ -17,6 +17,14 @@ is_race (a ∷ []) = false
 is_race (a ∷ b ∷ []) = false
 is_race (a ∷ b ∷ c ∷ more) = bytes_eq a (codes "race")
 
+-- `replay RECIPE SCHEDULE`
+abbrev pub is_replay : List (List ℕ) → Bool
+is_replay [] = false
+is_replay (a ∷ []) = false
+is_replay (a ∷ b ∷ []) = false
+is_replay (a ∷ b ∷ c ∷ []) = bytes_eq a (codes "replay")
+is_replay (a ∷ b ∷ c ∷ d ∷ more) = false
+
 -- one of the forms
 abbrev pub is_form : List (List ℕ) → Bool
-is_form words = is_run words || is_race words
+is_form words = is_run words || is_race words || is_replay words

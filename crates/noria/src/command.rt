@@ -1,9 +1,10 @@
 //! The command line.
 ghost use Rattle.std.specs.Prelude.{◌≡◌, ◌≤◌, ◌==◌, is_some, map, not, string_bytes};
-ghost use Rattle.noria.specs.Arguments.{is_form, is_race, is_run};
+ghost use Rattle.noria.specs.Arguments.{is_form, is_race, is_replay, is_run};
 
 use crate::fault::Fault;
 use crate::race::race_files;
+use crate::replay::replay_files;
 use crate::runner::run_files;
 use crate::texts::Texts;
 use std::alloc::Global;
@@ -16,10 +17,10 @@ const USAGE: &str =
     "usage: noria run RECIPE SCRIPT | noria race RECIPE SCRIPT.. | noria replay RECIPE SCHEDULE";
 
 /// Runs the program on the words behind its name, and gives the exit status: 0 where all was run,
-/// also where single calls were refused; 1 where a recipe, a script, the start, a file, the memory
-/// or the output was refused, with the refusal on `err`; 2 for any words but `run RECIPE SCRIPT`
-/// and `race RECIPE SCRIPT..`, with the usage line there. A failed write to `err` leaves the status
-/// as it is. All threads that it starts have ended.
+/// also where single calls were refused; 1 where a recipe, a script, a schedule, the start, a file,
+/// the memory or the output was refused, with the refusal on `err`; 2 for any words but
+/// `run RECIPE SCRIPT`, `race RECIPE SCRIPT..` and `replay RECIPE SCHEDULE`, with the usage line
+/// there. A failed write to `err` leaves the status as it is. All threads that it starts have ended.
 pub fn command<R: Threads + Wait + Copy + Drop + Send + 'static, T: Texts, O: Write, E: Write>(
     rt: R,
     alloc: Global,
@@ -35,6 +36,8 @@ pub fn command<R: Threads + Wait + Copy + Drop + Send + 'static, T: Texts, O: Wr
         run_files(rt, alloc, recipe, script, texts, out)
     } else if let Some((recipe, scripts)) = race_of(words) {
         race_files(rt, alloc, recipe, scripts, texts, out)
+    } else if let Some((recipe, schedule)) = replay_of(words) {
+        replay_files(alloc, recipe, schedule, texts, out)
     } else {
         let _ = writeln!(err, "{USAGE}");
         return 2;
@@ -66,6 +69,18 @@ fn race_of(words: &[String]) -> Option<(&str, &[String])>
 {
     match words {
         [race, recipe, _, ..] if race.as_str() == "race" => Some((recipe.as_str(), &words[2..])),
+        _ => None,
+    }
+}
+
+// The names of the recipe and the schedule, where the words are `replay RECIPE SCHEDULE`.
+fn replay_of(words: &[String]) -> Option<(&str, &str)>
+    ensures { is_some result ≡ is_replay (map string_bytes words.now) }
+{
+    match words {
+        [replay, recipe, schedule] if replay.as_str() == "replay" => {
+            Some((recipe.as_str(), schedule.as_str()))
+        }
         _ => None,
     }
 }

@@ -1,12 +1,13 @@
 //! What ends a run.
 use recipe::error::PlanError;
+use replays::replay::ReplayError;
 use row::refused::Refused;
 use script::script::ScriptError;
 use std::alloc::AllocError;
 use std::fmt;
 
-/// What ends a run: a refusal, a recipe that is refused, or a line of the script that is of no
-/// known form.
+/// What ends a run: a refusal, a recipe that is refused, or a line of the script or the schedule that
+/// is of no known form.
 #[derive(Clone, Copy, PartialEq, Eq, Debug)]
 pub enum Fault {
     Refused(Refused),
@@ -55,6 +56,16 @@ impl From<ScriptError> for Fault {
         match error {
             ScriptError::NoMemory => Fault::Refused(error.refused()),
             ScriptError::BadScript { line } => Fault::BadScript { line },
+        }
+    }
+}
+
+impl From<ReplayError> for Fault {
+    fn from(error: ReplayError) -> Fault {
+        match error {
+            ReplayError::NoMemory => Fault::Refused(Refused::NoMemory),
+            ReplayError::BadScript { line } => Fault::BadScript { line },
+            ReplayError::CannotWrite => Fault::Refused(Refused::CannotWrite),
         }
     }
 }

@@ -1,4 +1,4 @@
-//! The program: sessions run scripts over the plan of a recipe.
+//! The program: sessions run scripts over the plan of a recipe, or one thread runs a schedule.
 #![tactic(auto)]
 
 mod answers;
@@ -9,6 +9,7 @@ mod orders;
 mod play;
 mod race;
 mod reads;
+mod replay;
 mod runner;
 mod texts;
 mod writes;

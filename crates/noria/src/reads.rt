@@ -1,12 +1,8 @@
 //! Reads of a view: a key of its word, and the lines of an answer.
-ghost use Rattle.std.specs.Prelude.{◌≡◌};
-ghost use Rattle.noria.specs.Keys.{kind_of_key};
-
 use book::law::Naming;
-use plan::kinds::Kind;
-use plan::plan::Plan;
 use row::refused::Refused;
 use script::cell::value_of;
+use script::columns::kind_of_key;
 use sessions::reads::{Answer, Found};
 use sessions::session::Session;
 use std::alloc::Global;
@@ -28,20 +24,6 @@ pub fn look<J: Naming, R: Wait>(
     } else {
         session.try_read(alloc, view, &key)
     }
-}
-
-/// The kind by which a key of the view is read: that of its key column, and a text where there is
-/// no such view.
-pub fn kind_of_key(plan: &Plan, view: &str) -> Kind
-    ensures { result ≡ kind_of_key plan.now view.now }
-{
-    plan.keeps_profile();
-    let Some(place) = plan.view_named(view) else {
-        return Kind::Text;
-    };
-    let key = plan.view(place).key();
-    let left = plan.table(plan.left().table());
-    left.kind(key).unwrap_or(Kind::Text)
 }
 
 /// Writes `rows N cut CUT` and a line for each of the N rows, or `miss`.

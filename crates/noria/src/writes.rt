@@ -1,14 +1,9 @@
 //! Writes to a table: a row or a key of its words.
-ghost use Rattle.std.specs.Prelude.{◌≡◌};
-ghost use Rattle.noria.specs.Keys.{kind_of_table};
-
 use book::law::Naming;
 use model::entry::Entry;
-use plan::kinds::Kind;
-use plan::plan::Plan;
 use row::refused::Refused;
-use row::row::Row;
 use script::cell::value_of;
+use script::columns::{kind_of_table, row_of};
 use sessions::session::{Accepted, Session};
 use std::alloc::Global;
 use std::sync::Wait;
@@ -37,27 +32,4 @@ pub fn write<J: Naming, R: Wait>(
         }
     };
     session.write(rt, alloc, table, entry)
-}
-
-// Each word is read by its column; where there is no such column it is a text.
-fn row_of(alloc: Global, plan: &Plan, table: &str, words: Vec<String>) -> Result<Row, Refused> {
-    let table = plan.table_named(table).map(|place| plan.table(place));
-    let mut cells = Vec::new(alloc);
-    for word in words {
-        let kind = table.and_then(|table| table.kind(cells.len()));
-        cells.push(value_of(alloc, kind.unwrap_or(Kind::Text), word)?)?;
-    }
-    Ok(Row::new(cells))
-}
-
-// The kind by which a key of the table is read: that of its key column, and a text where there is
-// no such table.
-fn kind_of_table(plan: &Plan, table: &str) -> Kind
-    ensures { result ≡ kind_of_table plan.now table.now }
-{
-    let Some(place) = plan.table_named(table) else {
-        return Kind::Text;
-    };
-    let table = plan.table(place);
-    table.kind(table.key()).unwrap_or(Kind::Text)
 }

@@ -3,18 +3,11 @@
 //! event. Of a recipe that is refused, it prints that alone.
 #![tactic(auto)]
 
-mod events;
-mod replies;
-
-use crate::events::event_of;
-use crate::replies::write_reply;
 use cases::case::{Answers, Case, write_cases};
 use plan::plan::Plan;
-use row::refused::Refused;
-use schedule::event::{Event, Reply};
+use replays::replay::{ReplayError, replay_text};
 use std::alloc::{AllocError, Global};
-use std::io::{self, Write};
-use world::world::replay;
+use std::io::{self, ErrorKind, Write};
 
 fn main(rt: HostRuntime) -> io::Result<()> {
     let text = io::read_to_string(rt.alloc(), rt.stdin())?;
@@ -26,35 +19,25 @@ struct Schedules;
 
 impl Answers for Schedules {
     fn write<'t, W: Write>(alloc: Global, case: &Case<'t>, out: &mut W) -> io::Result<()> {
-        let mut events = Vec::new(alloc);
+        let mut text = String::new(alloc);
         for line in &case.questions {
-            match event_of(alloc, &case.plan, line)? {
-                Some(event) => events.push(event)?,
-                None => return writeln!(out, "no event: {line}"),
-            }
+            writeln!(text, "{line}")?;
         }
-        write_replies(alloc, &case.plan, &events, out)
+        match replay(alloc, &case.plan, &text, out) {
+            Ok(()) => Ok(()),
+            Err(ReplayError::NoMemory) => Err(io::Error::from(AllocError)),
+            Err(ReplayError::CannotWrite) => Err(io::Error::from(ErrorKind::BrokenPipe)),
+            Err(ReplayError::BadScript { line }) => writeln!(out, "no event in line {line}"),
+        }
     }
 }
 
-fn write_replies<W: Write>(
+// It has no clause, so that what a schedule comes to is not carried on.
+fn replay<W: Write>(
     alloc: Global,
     plan: &Plan,
-    events: &[Event],
+    text: &str,
     out: &mut W,
-) -> io::Result<()> {
-    let replies = match replies_of(alloc, plan, events) {
-        Ok(replies) => replies,
-        Err(Refused::NoMemory) => return Err(io::Error::from(AllocError)),
-        Err(refused) => return writeln!(out, "schedule refused: {refused}"),
-    };
-    for reply in &replies {
-        write_reply(plan, reply, out)?;
-    }
-    Ok(())
-}
-
-// It has no clause, so that what a schedule comes to is not carried on to the lines.
-fn replies_of(alloc: Global, plan: &Plan, events: &[Event]) -> Result<Vec<Reply>, Refused> {
-    replay(alloc, plan, events)
+) -> Result<(), ReplayError> {
+    replay_text(alloc, plan, text.as_bytes(), out)
 }

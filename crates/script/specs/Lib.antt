@@ -3,3 +3,4 @@ pub mod Machine
 pub mod Commands
 pub mod Scripts
 pub mod Values
+pub mod Columns

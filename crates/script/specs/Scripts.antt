@@ -1,10 +1,10 @@
--- The lines of a script, and the calls that they are.
+-- The lines of a script or a schedule, and what they ask for.
 use Rattle.std.specs.Prelude.{◌≡◌, ℕ, ◌+◌, ◌==◌, Bool, not, List, [], ◌∷◌, ◌++◌, ◌⊎◌, length, Option, Some, None, if◌then◌else◌}
 use Rattle.std.specs.List.{list_all}
 use Rattle.row.specs.declared.refused.Refused.{Refused}
 use Rattle.row.specs.declared.refused.Refused.TheVariants as refused
 use Rattle.script.specs.Words.{IsLine}
-use Rattle.script.specs.Commands.{Action, action_of, Asks}
+use Rattle.script.specs.Commands.{Action, action_of}
 use Rattle.script.specs.declared.script.Call.{Call}
 use Rattle.script.specs.declared.script.ScriptError.{ScriptError}
 use Rattle.script.specs.declared.script.ScriptError.TheVariants as error
@@ -33,37 +33,39 @@ abbrev pub IsComment : List ℕ → Type 0
 IsComment [] = ⊥
 IsComment (b ∷ bs) = b ≡ 35
 
--- a line that is skipped says nothing, any other what its words ask for
-abbrev pub Says : List ℕ → Option Action → Type 0
-Says line None = IsComment line ⊎ IsLine line []
-Says line (Some action) = (¬ IsComment line) × (words : List (List ℕ)) × IsLine line words × Asks words action
-
--- a call: the number of its line, and what it asks for
-pub record Numbered : Type 0 where
+-- the number of a line, and what it asks for
+pub record Numbered (A : Type 0) : Type 0 where
   pub line : ℕ
-  pub action : Action
+  pub action : A
 
 -- the program's call as such
-abbrev pub numbered : Call → Numbered
+abbrev pub numbered : Call → Numbered Action
 numbered call = record { line = call.line; action = action_of call.command }
 
--- the call of the line with that number, if it says one
-abbrev pub call_at : ℕ → Option Action → List Numbered
+-- what the line with that number asks for, if it is not skipped
+abbrev pub call_at : {A : Type 0} → ℕ → Option A → List (Numbered A)
 call_at number None = []
 call_at number (Some action) = record { line = number; action = action } ∷ []
 
--- the lines, numbered from there on, are these calls in order
-abbrev pub IsScript : ℕ → List (List ℕ) → List Numbered → Type 0
-IsScript number [] calls = calls ≡ []
-IsScript number (line ∷ lines) calls = (said : Option Action) × (rest : List Numbered) × Says line said × IsScript (number + 1) lines rest × (calls ≡ call_at number said ++ rest)
+-- a text, where words ask for things of some kind
+module _ {A : Type 0} (Asks : List (List ℕ) → A → Type 0) where
+  -- a line that is skipped says nothing, any other what its words ask for
+  abbrev pub Says : List ℕ → Option A → Type 0
+  Says line None = IsComment line ⊎ IsLine line []
+  Says line (Some action) = (¬ IsComment line) × (words : List (List ℕ)) × IsLine line words × Asks words action
 
--- the line is neither skipped nor a call
-abbrev pub IsFault : List ℕ → Type 0
-IsFault line = (said : Option Action) → ¬ Says line said
+  -- the lines, numbered from there on, ask for these things in order
+  abbrev pub IsScript : ℕ → List (List ℕ) → List (Numbered A) → Type 0
+  IsScript number [] calls = calls ≡ []
+  IsScript number (line ∷ lines) calls = (said : Option A) × (rest : List (Numbered A)) × Says line said × IsScript (number + 1) lines rest × (calls ≡ call_at number said ++ rest)
 
--- the line with that number is at fault, and the lines in front of it are calls
-abbrev pub IsFirstFault : List (List ℕ) → ℕ → Type 0
-IsFirstFault lines number = (front : List (List ℕ)) × (line : List ℕ) × (more : List (List ℕ)) × (calls : List Numbered) × (lines ≡ front ++ line ∷ more) × (number ≡ length front + 1) × IsScript 1 front calls × IsFault line
+  -- the line is neither skipped nor asks for anything
+  abbrev pub IsFault : List ℕ → Type 0
+  IsFault line = (said : Option A) → ¬ Says line said
+
+  -- the line with that number is at fault, and no line in front of it is
+  abbrev pub IsFirstFault : List (List ℕ) → ℕ → Type 0
+  IsFirstFault lines number = (front : List (List ℕ)) × (line : List ℕ) × (more : List (List ℕ)) × (calls : List (Numbered A)) × (lines ≡ front ++ line ∷ more) × (number ≡ length front + 1) × IsScript 1 front calls × IsFault line
 
 -- the refusal that users see
 abbrev pub refusal_of : ScriptError → Refused

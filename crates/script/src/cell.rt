@@ -25,8 +25,9 @@ pub fn value_of(alloc: Global, kind: Kind, word: String) -> Result<Value, AllocE
     }
 }
 
-// The number that the word prints, if there is one.
-fn number_of(alloc: Global, word: &str) -> Result<Option<i64>, AllocError>
+/// The number of 64 bits that the word prints, if there is one. Errors: memory only. It copies the
+/// digits.
+pub fn number_of(alloc: Global, word: &str) -> Result<Option<i64>, AllocError>
     ensures { IfOk result (λ found. MatchOption found ((n : ℤ) → ¬ Prints word.now n)
         (λ n. Prints word.now n)) }
 {

@@ -28,8 +28,9 @@ pub enum Command {
 }
 
 impl Command {
-    // The command that the words ask for: its name, and then its operands.
-    pub(crate) fn of(mut words: Vec<String>) -> Option<Command>
+    /// The command that the words ask for: its name, and then its operands; none where they are of
+    /// no form. Takes no memory. Cost: a look at each word.
+    pub fn of(mut words: Vec<String>) -> Option<Command>
         requires { 0 < length words.items }
         ensures some { IfSome result (λ command. Asks (map string_bytes words.items)
             (action_of command)) }

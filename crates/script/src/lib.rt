@@ -1,7 +1,8 @@
-//! A reader of scripts: the words of a line, the calls of a text, and a word as a cell.
+//! A reader of scripts: the words of a line, the calls of a text, and words as cells of columns.
 #![tactic(auto)]
 
 pub mod cell;
+pub mod columns;
 pub mod command;
 pub mod script;
 pub mod words;

@@ -2,7 +2,7 @@
 ghost use Rattle.std.specs.Prelude.{◌≡◌, ℕ, ◌+◌, ◌<◌, ◌≤◌, ◌^◌, ◌≢◌, ◌↔◌, IsTrue, List, ◌∷◌, ◌++◌, [], ◌⊎◌, true, length, map, slice_index, Option, Some, IfOk, OnOk, IsErrOf};
 ghost use Rattle.std.specs.List.{list_all};
 ghost use Rattle.std.specs.Option.{option_map};
-ghost use Rattle.script.specs.Commands.{Action, action_of};
+ghost use Rattle.script.specs.Commands.{Action, Asks, action_of};
 ghost use Rattle.script.specs.Scripts.{lines_of, ended, is_whole, Says, Numbered, numbered, call_at, IsComment, IsScript, IsFault, IsFirstFault, refusal_of};
 
 use crate::command::Command;
@@ -51,8 +51,8 @@ fn line_length(text: &[u8]) -> usize
         .unwrap_or(text.len())
 }
 
-// The first line, and the text behind its line feed.
-fn split_line(text: &[u8]) -> (&[u8], &[u8])
+/// The first line, and the text behind its line feed. A look at each byte of the line.
+pub fn split_line(text: &[u8]) -> (&[u8], &[u8])
     requires { 0 < length text.now }
     ensures lines { lines_of text.now ≡ result.0.now ∷ lines_of result.1.now }
     ensures shorter { length result.1.now < length text.now }
@@ -65,7 +65,8 @@ fn split_line(text: &[u8]) -> (&[u8], &[u8])
     }
 }
 
-fn is_comment(line: &[u8]) -> bool
+/// Whether the line is a comment: its first byte is `#`. Constant time.
+pub fn is_comment(line: &[u8]) -> bool
     ensures { IsTrue result ↔ IsComment line.now }
 {
     matches!(line, [b'#', ..])
@@ -73,8 +74,8 @@ fn is_comment(line: &[u8]) -> bool
 
 // The command of a line, if it isn't skipped.
 fn command_of(alloc: Global, line: &[u8]) -> Result<Option<Command>, LineError>
-    ensures said { IfOk result (λ found. Says line.now (option_map action_of found)) }
-    ensures fault { IsErrOf result LineError.BadLine → IsFault line.now }
+    ensures said { IfOk result (λ found. Says Asks line.now (option_map action_of found)) }
+    ensures fault { IsErrOf result LineError.BadLine → IsFault Asks line.now }
 {
     if is_comment(line) {
         return Ok(None);
@@ -100,11 +101,11 @@ impl Reader {
     fn take(&mut self, alloc: Global, line: &[u8]) -> Result<(), ScriptError>
         requires { self.old.lines + 1 < 2 ^ 64 }
         ensures lines { OnOk result (self.new.lines ≡ self.old.lines + 1) }
-        ensures calls { OnOk result ((said : Option Action) × Says line.now said
+        ensures calls { OnOk result ((said : Option Action) × Says Asks line.now said
             × (map numbered self.new.calls.items ≡ map numbered self.old.calls.items
             ++ call_at (self.old.lines + 1) said)) }
         ensures fault { (number : ℕ) → IsErrOf result (ScriptError.BadScript number)
-            → (number ≡ self.old.lines + 1) × IsFault line.now }
+            → (number ≡ self.old.lines + 1) × IsFault Asks line.now }
     {
         let number = self.lines + 1;
         match command_of(alloc, line) {
@@ -136,13 +137,14 @@ pub fn lines_are_the_text()
 /// The calls of a script, in order, with the numbers of their lines. `BadScript` names the first
 /// line that is neither skipped nor a call. A look at each byte, and a copy of the words.
 pub fn read_script(alloc: Global, text: &[u8]) -> Result<Vec<Call>, ScriptError>
-    ensures ok { IfOk result (λ calls. IsScript 1 (lines_of text.now) (map numbered calls.items)) }
-    ensures only { IfOk result (λ calls. (others : List Numbered)
-        → IsScript 1 (lines_of text.now) others → others ≡ map numbered calls.items) }
+    ensures ok { IfOk result (λ calls. IsScript Asks 1 (lines_of text.now)
+        (map numbered calls.items)) }
+    ensures only { IfOk result (λ calls. (others : List (Numbered Action))
+        → IsScript Asks 1 (lines_of text.now) others → others ≡ map numbered calls.items) }
     ensures first { (number : ℕ) → IsErrOf result (ScriptError.BadScript number)
-        → IsFirstFault (lines_of text.now) number }
+        → IsFirstFault Asks (lines_of text.now) number }
     ensures none { (number : ℕ) → IsErrOf result (ScriptError.BadScript number)
-        → (calls : List Numbered) → ¬ IsScript 1 (lines_of text.now) calls }
+        → (calls : List (Numbered Action)) → ¬ IsScript Asks 1 (lines_of text.now) calls }
 {
     let mut reader = Reader {
         calls: Vec::new(alloc),

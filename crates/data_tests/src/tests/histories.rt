@@ -25,11 +25,11 @@ enum ItemOf {
 }
 
 fn cut(alloc: Global, of: CutOf) -> Result<Lengths, AllocError> {
-    let mut lines = Vec::new(alloc);
+    let mut cut = Lengths::empty(alloc);
     for lengths in of {
-        lines.push(Vec::from_slice(alloc, lengths)?)?;
+        cut.push_line(alloc, lengths)?;
     }
-    Ok(Lengths::new(lines))
+    Ok(cut)
 }
 
 fn floors(alloc: Global, of: &[CutOf]) -> Result<Floors, AllocError> {

@@ -1,12 +1,13 @@
 use Rattle.std.proofs.Common.{◌+◌, ◌≤◌, length, map}
 use Rattle.script.specs.Scripts.{lines_of, numbered}
-use Rattle.script.proofs.Saying.{ReadUpTo}
+use Rattle.script.specs.Commands.{Asks}
+use Rattle.script.proofs.Reading.{ReadUpTo}
 use Rattle.script.proofs.script.read_script.Given as goal
 
 -- the lines in front of the rest are the calls so far
 abbrev pub invariant-loop-rest : goal.invariant-loop-rest
 invariant-loop-rest l = record {
-  read : ReadUpTo (lines_of l.text) (lines_of l.rest) l.reader.lines (map numbered l.reader.calls.items);
+  read : ReadUpTo Asks (lines_of l.text) (lines_of l.rest) l.reader.lines (map numbered l.reader.calls.items);
   small : l.reader.lines + length l.rest ≤ length l.text;
 }
 

@@ -1,0 +1,75 @@
+-- What the words of a line of a schedule ask for.
+use Rattle.std.specs.Prelude.{◌≡◌, ℕ, ◌<◌, List, [], ◌∷◌, ◌⊎◌, map, string_bytes, codes}
+use Rattle.std.specs.Fmt.{decimal}
+use Rattle.script.specs.Commands as script
+use Rattle.schedule_lines.specs.declared.event_line.EventLine.{EventLine}
+use Rattle.schedule_lines.specs.declared.event_line.EventLine.TheVariants as code
+
+-- a call of a session, the delivery of an edge's first message, an order to evict a stage key or a key of a view, a stop of a domain, or
+-- deliveries until all edges are empty
+pub data Ask : Type 0 where
+  insert : (session : ℕ) (table : List ℕ) (cells : List (List ℕ)) → Ask
+  update : (session : ℕ) (table : List ℕ) (cells : List (List ℕ)) → Ask
+  delete : (session : ℕ) (table key : List ℕ) → Ask
+  try : (session : ℕ) (view key : List ℕ) → Ask
+  want : (session : ℕ) (view key : List ℕ) → Ask
+  fence : (session : ℕ) → Ask
+  count : (session : ℕ) (view : List ℕ) → Ask
+  deliver : (edge : List ℕ) → Ask
+  evict_stage : (key : List ℕ) → Ask
+  evict_view : (view key : List ℕ) → Ask
+  stop : (domain : List ℕ) → Ask
+  settle : Ask
+
+-- the program's line as such
+abbrev pub ask_of : EventLine → Ask
+ask_of (code.Insert session table cells) = insert session (string_bytes table) (map string_bytes cells.items)
+ask_of (code.Update session table cells) = update session (string_bytes table) (map string_bytes cells.items)
+ask_of (code.Delete session table key) = delete session (string_bytes table) (string_bytes key)
+ask_of (code.Try session view key) = try session (string_bytes view) (string_bytes key)
+ask_of (code.Want session view key) = want session (string_bytes view) (string_bytes key)
+ask_of (code.Fence session) = fence session
+ask_of (code.Count session view) = count session (string_bytes view)
+ask_of (code.Deliver edge) = deliver (string_bytes edge)
+ask_of (code.EvictStage key) = evict_stage (string_bytes key)
+ask_of (code.EvictView view key) = evict_view (string_bytes view) (string_bytes key)
+ask_of (code.Stop domain) = stop (string_bytes domain)
+ask_of code.Settle = settle
+
+-- the word is the number, from 0 to 4294967295, by its decimal digits
+abbrev pub IsSession : List ℕ → ℕ → Type 0
+IsSession word n = (n < 4294967296) × (decimal n ≡ word)
+
+-- the words behind the number of session n: those of a script's insert, update, delete, try, fence or count, or `want VIEW KEY`
+abbrev pub Calls : ℕ → List (List ℕ) → Ask → Type 0
+Calls n words (insert session table cells) = (session ≡ n) × script.Asks words (script.insert table cells)
+Calls n words (update session table cells) = (session ≡ n) × script.Asks words (script.update table cells)
+Calls n words (delete session table key) = (session ≡ n) × script.Asks words (script.delete table key)
+Calls n words (try session view key) = (session ≡ n) × script.Asks words (script.try view key)
+Calls n words (want session view key) = (session ≡ n) × (words ≡ codes "want" ∷ view ∷ key ∷ [])
+Calls n words (fence session) = (session ≡ n) × script.Asks words script.fence
+Calls n words (count session view) = (session ≡ n) × script.Asks words (script.count view)
+Calls n words other = ⊥
+
+-- the words are the number of a session, and then a call of it
+abbrev pub IsCall : List (List ℕ) → Ask → Type 0
+IsCall [] ask = ⊥
+IsCall (word ∷ words) ask = (n : ℕ) × IsSession word n × Calls n words ask
+
+-- the words are `deliver EDGE`, `stop DOMAIN`, `settle`, or a script's `evict stage KEY` or `evict view VIEW KEY`
+abbrev pub IsOrder : List (List ℕ) → Ask → Type 0
+IsOrder words (deliver edge) = words ≡ codes "deliver" ∷ edge ∷ []
+IsOrder words (evict_stage key) = script.Asks words (script.evict_stage key)
+IsOrder words (evict_view view key) = script.Asks words (script.evict_view view key)
+IsOrder words (stop domain) = words ≡ codes "stop" ∷ domain ∷ []
+IsOrder words settle = words ≡ codes "settle" ∷ []
+IsOrder words other = ⊥
+
+-- the forms of lines
+abbrev pub Asks : List (List ℕ) → Ask → Type 0
+Asks words ask = IsCall words ask ⊎ IsOrder words ask
+
+-- the first word is `want`
+abbrev pub IsWant : List (List ℕ) → Type 0
+IsWant [] = ⊥
+IsWant (word ∷ words) = word ≡ codes "want"

@@ -1,0 +1,4 @@
+pub mod Asks
+pub mod Schedules
+pub mod Events
+pub mod Replies
