@@ -1,5 +1,5 @@
 -- Lists: what holds of each element, one more element, and a part of each.
-use Rattle.std.proofs.Common.{◌≡◌, ℕ, zero, suc, ◌+◌, ◌<◌, ◌≤◌, List, [], ◌∷◌, ◌++◌, map, length, take, get_or, slice_index_or, slice_set, refl, ap, ◌∙◌, arith, subst, sym, ◌⊎◌, inl, inr}
+use Rattle.std.proofs.Common.{◌≡◌, ℕ, zero, suc, ◌+◌, ◌<◌, ◌≤◌, List, [], ◌∷◌, ◌++◌, map, length, take, drop, get_or, slice_get, Some, slice_index_or, slice_set, refl, ap, ◌∙◌, arith, subst, sym, ◌⊎◌, inl, inr}
 use Rattle.std.proofs.lemmas.List.{take_more, take_all, map-append, map-set, length-map}
 use Rattle.row.specs.Bags.{Each}
 
@@ -49,6 +49,12 @@ pub any_end : {X : Type 0} (xs : List X) (i : ℕ) (d e : X) → i < length xs �
 any_end [] i d e lt = absurd (omega arith)
 any_end (x ∷ xs) zero d e lt = refl
 any_end (x ∷ xs) (suc i) d e lt = any_end xs i d e (omega arith)
+
+-- what is left from place i on, the first of which is x
+pub drop_at : {X : Type 0} (xs : List X) (i : ℕ) (x : X) → slice_get xs i ≡ Some x → drop i xs ≡ x ∷ drop (suc i) xs
+drop_at [] i x is = cc
+drop_at (y ∷ ys) zero x is = let same : y ≡ x = cc in ap (λ z. z ∷ ys) same
+drop_at (y ∷ ys) (suc i) x is = drop_at ys i x is
 
 -- below, or not
 pub below_or_not : (a b : ℕ) → (a < b) ⊎ (b ≤ a)

@@ -11,4 +11,5 @@ pub mod Refusals
 pub mod Legal
 pub mod Fronts
 pub mod Steps
+pub mod Blocks
 pub mod Lists

@@ -1,7 +1,5 @@
 -- Lists of entries that copies share.
 use Rattle.std.specs.Prelude.{List, map}
-use Rattle.std.specs.declared.alloc.Global.{Global}
-use Rattle.std.specs.declared.rc.Rc.{Rc}
 use Rattle.model.specs.Entries.{change_of}
 use Rattle.model.specs.Fronts.{LogView}
 use Rattle.model.specs.Histories.{Author}
@@ -14,8 +12,8 @@ pub record ListView : Type 0 where
   pub authors : List Author
 
 -- the entries of a list, and who wrote them
-abbrev pub changes_of : List (Rc Logged Global) → List Change
-changes_of entries = map (λ (l : Rc Logged Global). change_of l.value.entry) entries
+abbrev pub changes_of : List Logged → List Change
+changes_of entries = map (λ (l : Logged). change_of l.entry) entries
 
-abbrev pub authors_of : List (Rc Logged Global) → List Author
-authors_of entries = map (λ (l : Rc Logged Global). record { session = l.value.session; number = l.value.number }) entries
+abbrev pub authors_of : List Logged → List Author
+authors_of entries = map (λ (l : Logged). record { session = l.session; number = l.number }) entries

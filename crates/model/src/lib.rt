@@ -2,6 +2,7 @@
 //! are legal.
 #![tactic(auto)]
 
+mod blocks;
 mod display;
 pub mod entry;
 pub mod floors;

@@ -5,12 +5,12 @@ ghost use Rattle.model.specs.Fronts.{LogView, IsLog, Agree};
 ghost use Rattle.model.specs.Lists.{ListView, changes_of, authors_of};
 ghost use Rattle.model.specs.Places.{base_count};
 
+use crate::blocks::Blocks;
 use crate::entry::Entry;
 use crate::fronts::{Found, Fronts};
 use plan::plan::Plan;
 use std::alloc::{AllocError, Global};
 use std::marker::Model;
-use std::rc::Rc;
 
 /// An entry of a log, and its author.
 #[derive(Drop)]
@@ -27,7 +27,7 @@ pub struct ListFront<'p> {
     plan: &'p Plan,
     base: usize,
     len: u64,
-    entries: Rc<Vec<Rc<Logged>>>,
+    entries: Blocks<Logged>,
 }
 
 impl<'p> Model for ListFront<'p> {
@@ -41,19 +41,20 @@ impl<'p> Model for ListFront<'p> {
       log = record {
         plan = f.plan.now;
         base = f.base;
-        entries = changes_of f.entries.value.items;
+        entries = changes_of f.entries;
       };
-      authors = authors_of f.entries.value.items;
+      authors = authors_of f.entries;
     } };
 
-    ghost invariant = { λ f. (f.len ≡ length f.entries.value.items) × IsLog (record {
+    ghost invariant = { λ f. (f.len ≡ length f.entries) × IsLog (record {
       plan = f.plan.now;
       base = f.base;
-      entries = changes_of f.entries.value.items;
+      entries = changes_of f.entries;
     }) };
 }
 
-/// The right to append to a list. An append costs a place for each entry of the list.
+/// The right to append to a list. An append costs a place for at most 64 entries, and each 64th one
+/// also a place for each 64 entries of the list.
 #[derive(Drop)]
 pub struct ListRight<'p> {
     front: ListFront<'p>,
@@ -80,7 +81,7 @@ impl<'p> ListRight<'p> {
             plan,
             base,
             len: 0,
-            entries: Rc::new(alloc, Vec::new(alloc))?,
+            entries: Blocks::new(alloc)?,
         };
         Ok(ListRight { front })
     }
@@ -95,29 +96,9 @@ impl<'p> ListFront<'p> {
             plan: self.plan,
             base: self.base,
             len: self.len,
-            entries: self.entries.clone()?,
+            entries: self.entries.shared()?,
         })
     }
-}
-
-// The entries and one more. The entries are shared.
-fn with_one_more(
-    alloc: Global,
-    entries: &Vec<Rc<Logged>>,
-    logged: Logged,
-) -> Result<Vec<Rc<Logged>>, AllocError>
-    ensures entries { IfOk result (λ v. changes_of v.items
-        ≡ changes_of entries.now.items ++ change_of logged.entry ∷ []) }
-    ensures authors { IfOk result (λ v. authors_of v.items ≡ authors_of entries.now.items
-        ++ record { session = logged.session; number = logged.number } ∷ []) }
-    ensures length { IfOk result (λ v. length v.items ≡ length entries.now.items + 1) }
-{
-    let mut more = Vec::new(alloc);
-    for entry in entries {
-        more.push(entry.clone()?)?;
-    }
-    more.push(Rc::new(alloc, logged)?)?;
-    Ok(more)
 }
 
 impl<'p> Fronts for ListFront<'p> {
@@ -173,8 +154,7 @@ impl<'p> Fronts for ListFront<'p> {
             number,
             entry,
         };
-        let entries = with_one_more(alloc, &right.front.entries, logged)?;
-        let entries = Rc::new(alloc, entries)?;
+        let entries = right.front.entries.with(alloc, logged)?;
         let front = ListFront {
             plan: right.front.plan,
             base: right.front.base,

@@ -1,7 +1,9 @@
 -- What is written, reply by reply.
-use Rattle.std.proofs.Common.{◌≡◌, ℕ, zero, suc, ◌≤◌, List, [], ◌∷◌, ◌++◌, drop, length, Option, Some, None, slice_get, refl, ap, sym, ◌∙◌, arith, append_assoc, append-nil}
+use Rattle.std.proofs.Common.{◌≡◌, ℕ, suc, ◌≤◌, List, [], ◌++◌, drop, length, Option, Some, None, slice_get, ap, sym, ◌∙◌, append_assoc, append-nil}
+use Rattle.std.proofs.Math.ListN.{drop_of_length-le}
 use Rattle.std.specs.Io.KnownBytes.{Appends}
 use Rattle.plan.specs.Layouts.{Layout}
+use Rattle.model.proofs.Lists.{drop_at}
 use Rattle.protocol.specs.Events.{Event, Reply}
 use Rattle.protocol.specs.Worlds.{World}
 use Rattle.protocol.specs.WorldSteps.{replies, step}
@@ -19,18 +21,6 @@ pub appends_none : (a : Option (List ℕ)) → Appends a a []
 appends_none None = tt
 appends_none (Some xs) = sym (append-nil xs)
 
--- the events from place i on, the first of which is e
-drop_at : (es : List Event) (i : ℕ) (e : Event) → slice_get es i ≡ Some e → drop i es ≡ e ∷ drop (suc i) es
-drop_at [] i e at = cc
-drop_at (x ∷ es) zero e at = let s : x ≡ e = cc in ap (λ y. y ∷ es) s
-drop_at (x ∷ es) (suc i) e at = drop_at es i e at
-
-drop_past : (es : List Event) (i : ℕ) → length es ≤ i → drop i es ≡ []
-drop_past [] zero le = refl
-drop_past [] (suc i) le = refl
-drop_past (x ∷ es) zero le = absurd (omega (arith, le))
-drop_past (x ∷ es) (suc i) le = drop_past es i (omega (arith, le))
-
 -- one reply more is written
 pub printed_next : (p : Layout) (es : List Event) (i j : ℕ) (e : Event) (w v : World) (done : List ℕ) (r : Reply) (all : List ℕ) → slice_get es i ≡ Some e → j ≡ suc i → v ≡ (step w e).world → r ≡ (step w e).reply → done ++ printed_replies p (replies w (drop i es)) ≡ all → (done ++ printed_reply p r) ++ printed_replies p (replies v (drop j es)) ≡ all
 printed_next p es i j e w v done r all at next is said whole =
@@ -42,4 +32,4 @@ printed_next p es i j e w v done r all at next is said whole =
 
 -- none is left
 pub printed_all : (p : Layout) (es : List Event) (i : ℕ) (w : World) (done all : List ℕ) → length es ≤ i → done ++ printed_replies p (replies w (drop i es)) ≡ all → done ≡ all
-printed_all p es i w done all le whole = sym (append-nil done) ∙ (ap (λ xs. done ++ printed_replies p (replies w xs)) (sym (drop_past es i le)) ∙ whole)
+printed_all p es i w done all le whole = sym (append-nil done) ∙ (ap (λ xs. done ++ printed_replies p (replies w xs)) (sym (drop_of_length-le es le)) ∙ whole)

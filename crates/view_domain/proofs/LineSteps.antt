@@ -1,5 +1,7 @@
 -- Fronts of a line, one after the other.
 use Rattle.std.proofs.Common.{◌≡◌, ℕ, zero, suc, ◌+◌, ◌<◌, ◌≤◌, List, [], ◌∷◌, Some, length, drop, take, slice_get, get_or, refl, ap, ◌∙◌, arith, add-one}
+use Rattle.std.proofs.Math.ListN.{drop_of_length-le}
+use Rattle.model.proofs.Lists.{drop_at}
 use Rattle.model.specs.Fronts.{LogView}
 use Rattle.packet.specs.Lines.{entries_of, fronts_to}
 use Rattle.packet.specs.Truth.{Pointwise}
@@ -17,21 +19,10 @@ module _ {X Y : Type 0} (R : X → Y → Type 0) where
   pointwise_length (x ∷ xs) [] h = absurd h
   pointwise_length (x ∷ xs) (y ∷ ys) h = omega (arith, pointwise_length xs ys h.1)
 
-drop_at : {X : Type 0} (xs : List X) (i : ℕ) (x : X) → slice_get xs i ≡ Some x → drop i xs ≡ x ∷ drop (suc i) xs
-drop_at [] i x h = cc
-drop_at (y ∷ ys) zero x h = let e : y ≡ x = cc in ap (λ z. z ∷ ys) e
-drop_at (y ∷ ys) (suc i) x h = drop_at ys i x h
-
 drop_or : (xs : List ℕ) (i : ℕ) → i < length xs → drop i xs ≡ get_or xs i 0 ∷ drop (suc i) xs
 drop_or [] i lt = absurd (omega (arith, lt))
 drop_or (y ∷ ys) zero lt = refl
 drop_or (y ∷ ys) (suc i) lt = drop_or ys i (omega (arith, lt))
-
-drop_past : {X : Type 0} (xs : List X) (i : ℕ) → length xs ≤ i → drop i xs ≡ []
-drop_past [] zero h = refl
-drop_past [] (suc i) h = refl
-drop_past (x ∷ xs) zero h = absurd (omega (arith, h))
-drop_past (x ∷ xs) (suc i) h = drop_past xs i (omega (arith, h))
 
 -- the lines from source i on are one
 abbrev pub Same : List ℕ → List LogView → List LogView → ℕ → Type 0
@@ -56,4 +47,4 @@ module _ (from : List ℕ) (to held : List LogView) (i : ℕ) where
     same_rest s = let e = both s in rw (add-one i) cc
 
   pub same_end : length to ≡ length held → length held ≤ i → Same from to held i
-  same_end n past = rw (drop_past to i (omega (arith, n, past)), drop_past held i past) (none_to (drop i from))
+  same_end n past = rw (drop_of_length-le to {i = i} (omega (arith, n, past)), drop_of_length-le held past) (none_to (drop i from))
