@@ -111,7 +111,8 @@ fn write_edges<W: Write>(alloc: Global, plan: &Plan, out: &mut W) -> io::Result<
     writeln!(out)
 }
 
-fn table_name(plan: &Plan, table: usize) -> &str {
+/// The table's name, and a mark where there is none.
+pub fn table_name(plan: &Plan, table: usize) -> &str {
     if table < plan.tables() {
         plan.table(table).name()
     } else {

@@ -1,6 +1,8 @@
 //! A row of a side of the stage, and whether it passes the side's conditions.
-use cases::words::{row_of, words_of};
+use crate::plans::table_name;
+use cases::words::words_of;
 use plan::plan::Plan;
+use script::columns::row_of;
 use std::alloc::Global;
 use std::io::{self, Write};
 
@@ -20,7 +22,8 @@ pub fn write_row<W: Write>(
     let Some(side) = side else {
         return writeln!(out, "no side {name}");
     };
-    let row = row_of(alloc, plan, side.table(), &words_of(alloc, line)?)?;
+    let table = table_name(plan, side.table());
+    let row = row_of(alloc, plan, table, words_of(alloc, line)?)?;
     let answer = if side.pass(&row) { "passes" } else { "fails" };
     write!(out, "{name} {answer}")?;
     writeln!(out, ": {row}")
