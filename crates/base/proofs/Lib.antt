@@ -6,3 +6,5 @@ pub mod Checks
 pub mod Finds
 pub mod Fitting
 pub mod Records
+pub mod Indexes
+pub mod Kept

@@ -2,3 +2,4 @@ pub mod Shards
 pub mod Stored
 pub mod Records
 pub mod Parts
+pub mod Indexed

@@ -2,18 +2,22 @@
 ghost use Rattle.std.specs.Prelude.{◌≡◌, ◌≢◌, ◌+◌, ◌++◌, ◌∷◌, [], List, filter, ◌<◌, ◌↔◌, true, false, if◌then◌else◌, IsTrue, IsOk, OnOk, IfOk, IfErr, IfSome, OnErr, IsOkUnless, Some, None, is_some, length};
 ghost use Rattle.std.specs.List.Sorted.{IsPermutation};
 ghost use Rattle.std.specs.HashMap.{get, spare, IsUnique};
-ghost use Rattle.row.specs.Cells.{datum_of, cell_at, has};
+ghost use Rattle.row.specs.Bags.{IsAscending};
+ghost use Rattle.row.specs.Cells.{datum_of, cell_at, has, row_cmp};
 ghost use Rattle.row.specs.Changes.{Turns};
 ghost use Rattle.model.specs.Logs.{Change, inserts, deletes, updates, is_held, key_of, rows_of};
 ghost use Rattle.model.specs.Refusals.{full, refusal};
 ghost use Rattle.model.specs.Entries.{change_of};
 ghost use Rattle.base.specs.Shards.{Shard, IsAt, HasKey, HasRoom, adds_row, room_after, rows_with, rows_after, rows_changed, after_entry, refusal_of, verdict};
+ghost use Rattle.base.specs.Indexed.{IsOf};
 ghost use Rattle.base.specs.Parts.{found};
 ghost use Rattle.base.specs.Records.{plus_of, minus_of, records_of, records_at, record_count};
 ghost use Rattle.row.specs.Groups.{equal};
 
+use crate::index::{Index, copies_in, expect_all, indexes_by, lose_all, ready_by, settle_all};
 use crate::part::Part;
 use model::entry::Entry;
+use row::grouped::Grouped;
 use row::record::{Record, Sign};
 use row::refused::Refused;
 use row::row::Row;
@@ -21,9 +25,10 @@ use row::value::Value;
 use std::alloc::{AllocError, Global};
 use std::collections::HashMap;
 use std::marker::Model;
+use std::mem;
 
 /// The rows that a log leaves in one shard of one table, each found by its key in constant
-/// (expected) time.
+/// (expected) time, and by the columns of its indexes.
 #[derive(Drop)]
 pub struct BaseShard {
     key_column: usize,
@@ -31,17 +36,21 @@ pub struct BaseShard {
     entry_count: u64,
     rows: HashMap<Value, Row>,
     ready: Option<Value>,
+    indexes: Vec<Index>,
 }
 
 impl Model for BaseShard {
     ghost use Rattle.base.specs.Shards.{Shard};
+    ghost use Rattle.std.specs.HashMap.{values};
+    ghost use Rattle.base.specs.Indexed.{AreIndexes};
     ghost use Rattle.base.specs.Stored.{IsStored, stored};
 
     ghost Value = { Shard };
 
     ghost view = { λ s. stored s.key_column s.limit s.entry_count s.rows s.ready };
 
-    ghost invariant = { λ s. IsStored s.key_column s.rows s.ready };
+    ghost invariant = { λ s. IsStored s.key_column s.rows s.ready
+        × AreIndexes (values s.rows) s.indexes.items };
 }
 
 impl BaseShard {
@@ -63,7 +72,35 @@ impl BaseShard {
             entry_count: 0,
             rows: HashMap::new(alloc),
             ready: None,
+            indexes: Vec::new(alloc),
         }
+    }
+
+    /// A shard as of `new` that also keeps its rows grouped by each of these columns: an index for
+    /// `lookup`. Errors: memory only.
+    pub fn with_indexes(
+        alloc: Global,
+        key_column: usize,
+        limit: u64,
+        columns: &[usize],
+    ) -> Result<BaseShard, AllocError>
+        ensures empty { IfOk result (λ s. s ≡ record {
+          key = key_column;
+          limit = limit;
+          rows = [];
+          length = 0;
+          room = None;
+        }) }
+        ensures front { IfOk result (λ s. IsAt s []) }
+    {
+        Ok(BaseShard {
+            key_column,
+            limit,
+            entry_count: 0,
+            rows: HashMap::new(alloc),
+            ready: None,
+            indexes: indexes_by(alloc, columns)?,
+        })
     }
 
     /// How many entries the log has so far.
@@ -256,8 +293,10 @@ impl BaseShard {
     }
 
     /// The rows of the part that have the value in the column, in order, a repeat each time: what
-    /// the front of the log has of them. Errors: memory only. Cost: a look at each row of the
-    /// shard, a copy of each that is found, and a sort of those.
+    /// the front of the log has of them. Errors: memory only. Cost: where an index by the column
+    /// stands and no row waits in it (`reserve_indexes`), one look-up by hash, a look at each row
+    /// of the value, and a copy of each that is found. Else a look at each row of the shard, a copy
+    /// of each that is found, and a sort of those.
     pub fn lookup(
         &self,
         alloc: Global,
@@ -270,6 +309,32 @@ impl BaseShard {
             ≡ found column (datum_of value.now) part self.now.rows) }
         ensures front { IfOk result (λ v. (front : List Change) → IsAt self.now front → v.items
             ≡ found column (datum_of value.now) part (rows_of self.now.key front)) }
+    {
+        match self.index(column) {
+            Some(rows) => copies_in(alloc, rows.rows_of(value), part),
+            None => self.scan(alloc, column, value, part),
+        }
+    }
+
+    /// The rows by the column, where they are found by it.
+    fn index(&self, column: usize) -> Option<&Grouped>
+        ensures found { IfSome result (λ g. (g.now.column ≡ column) × IsOf g.now self.now.rows) }
+        ensures in_order { IfSome result (λ g. IsAscending row_cmp g.now.rows) }
+    {
+        ready_by(&self.indexes, column)
+    }
+
+    /// What `lookup` finds, by a look at each row.
+    fn scan(
+        &self,
+        alloc: Global,
+        column: usize,
+        value: &Value,
+        part: Part,
+    ) -> Result<Vec<Row>, AllocError>
+        requires { part.shards ≢ 0 }
+        ensures { IfOk result (λ v. v.items
+            ≡ found column (datum_of value.now) part self.now.rows) }
     {
         let mut found = Vec::new(alloc);
         for row in self.rows.values() {
@@ -312,9 +377,35 @@ impl BaseShard {
         Ok(())
     }
 
+    /// Room for the entry in the indexes, so that `commit` keeps them and takes no memory: the row
+    /// of an Insert or an Update is added to each beforehand, in the place of one that waited there
+    /// for its entry. While it waits, a look-up looks at each row. Where an Insert or an Update
+    /// brings a row that waits in none, the indexes end, for good. Errors: memory only, and then
+    /// the shard is as it was; of several indexes the row may wait in some. Cost: for each index,
+    /// two copies of the row and that of `Grouped::add`, and that of `Grouped::subtract` for a row
+    /// that waited; nothing for a Delete.
+    pub fn reserve_indexes(&mut self, alloc: Global, entry: &Entry) -> Result<(), AllocError>
+        ensures same { self.new ≡ self.old }
+        ensures front { (front : List Change) → IsAt self.old front → IsAt self.new front }
+    {
+        match entry {
+            Entry::Insert(row) => self.expect(alloc, row),
+            Entry::Delete(_) => Ok(()),
+            Entry::Update(row) => self.expect(alloc, row),
+        }
+    }
+
+    /// Adds the row to the indexes before its entry.
+    fn expect(&mut self, alloc: Global, row: &Row) -> Result<(), AllocError>
+        ensures { self.new ≡ self.old }
+    {
+        expect_all(&mut self.indexes, alloc, row)
+    }
+
     /// Applies an entry that `check` allows and that there is room for: an Insert adds its row, a
     /// Delete takes the row of its key away, and an Update puts its row in the place of the one of
-    /// the same key. It takes no memory, cannot fail, and looks one key up.
+    /// the same key. It takes no memory, cannot fail, and looks one key up. Cost: for each index,
+    /// for a Delete or an Update also that of `Grouped::subtract`.
     pub fn commit(&mut self, entry: Entry)
         requires key { HasKey self.old.key (change_of entry) }
         requires lawful { refusal_of self.old (change_of entry) ≡ None }
@@ -361,6 +452,7 @@ impl BaseShard {
         ensures { self.new ≡ record (rows_changed self.old (inserts row)) { room = None } }
     {
         if let Some(key) = self.ready.take() {
+            settle_all(&mut self.indexes, &row);
             put(&mut self.rows, key, row);
         }
     }
@@ -369,7 +461,9 @@ impl BaseShard {
     fn remove(&mut self, key: &Value)
         ensures { self.new ≡ rows_changed self.old (deletes (datum_of key.now)) }
     {
-        let _ = self.rows.remove(key);
+        if let Some(row) = self.rows.remove(key) {
+            lose_all(&mut self.indexes, &row);
+        }
     }
 
     /// Puts the row in the place of the one of the same key, which is held.
@@ -378,8 +472,10 @@ impl BaseShard {
         requires held { is_held self.old.key self.old.rows (cell_at row self.old.key) ≡ true }
         ensures { self.new ≡ rows_changed self.old (updates row) }
     {
+        settle_all(&mut self.indexes, &row);
         let place = self.rows.get_mut(row.cell(self.key_column)).unwrap();
-        *place = row;
+        let old = mem::replace(place, row);
+        lose_all(&mut self.indexes, &old);
     }
 }
 

@@ -4,6 +4,7 @@ mod books;
 mod cells;
 mod edges;
 mod fronts;
+mod indexes;
 mod packets;
 mod plans;
 mod rows;

@@ -1,0 +1,8 @@
+use Rattle.std.proofs.Common.{◌≡◌, ◌∷◌, List, length}
+use Rattle.row.specs.Cells.{Cells}
+use Rattle.base.specs.Indexed.{IsIndex, AreIndexes}
+use Rattle.base.proofs.Indexes.{Mixed}
+use Rattle.base.proofs.index.lose_all.Given as goal
+
+abbrev pub invariant-loop-place : goal.invariant-loop-place
+invariant-loop-place l = ((rows : List Cells) → AreIndexes (l.row ∷ rows) l.fn.indexes.items → Mixed (IsIndex (l.row ∷ rows)) (IsIndex rows) l.place l.indexes.items) × (length l.indexes.items ≡ length l.fn.indexes.items)
