@@ -1,9 +1,8 @@
 -- Requests to each right source.
-use Rattle.std.proofs.Common.{◌≡◌, ℕ, zero, suc, ◌+◌, ◌<◌, ◌≤◌, Bool, true, false, cond, List, [], ◌∷◌, ◌++◌, map, length, slice_index_or, slice_set, refl, ap, sym, ◌∙◌, subst, arith, length-append}
-use Rattle.std.specs.Prelude.{nat_lt}
+use Rattle.std.proofs.Common.{◌≡◌, ℕ, zero, suc, ◌+◌, ◌<◌, ◌≤◌, true, false, cond, List, [], ◌∷◌, ◌++◌, map, length, slice_index_or, slice_set, refl, ap, sym, ◌∙◌, arith, length-append}
 use Rattle.std.specs.List.{range_with_len}
 use Rattle.std.proofs.lemmas.Bool.Decides.{nat_tests}
-use Rattle.std.proofs.lemmas.List.{append-nil, length-map, map-append}
+use Rattle.std.proofs.lemmas.List.{length-map}
 use Rattle.std.proofs.lemmas.List.FromFn.{length-range_with_len}
 use Rattle.row.specs.Cells.{Datum}
 use Rattle.plan.proofs.Ranges.{put_more}
@@ -12,7 +11,7 @@ use Rattle.model.specs.Places.{base_at, right_bases, side_bases, side_count, sou
 use Rattle.packet.specs.Messages.{Ask}
 use Rattle.packet.specs.Outboxes.{EdgeView, packets_on, with_one}
 use Rattle.packet.specs.Readers.{is_left, right_tag}
-use Rattle.protocol.specs.StageSteps.{append_each, asks_for}
+use Rattle.protocol.specs.StageSteps.{append_each}
 use Rattle.stage_steps.proofs.Appends.{append_more, append_nothing}
 
 abbrev pub asked_of : Layout → Datum → ℕ → List Ask

@@ -1,5 +1,5 @@
 -- The keys of a view that left rows have.
-use Rattle.std.proofs.Common.{◌≡◌, ℕ, zero, suc, ◌+◌, ◌<◌, ◌≤◌, Bool, true, false, cond, ◌||◌, ◌&&◌, List, [], ◌∷◌, ◌++◌, map, filter, length, take, slice_index_or, Option, Some, None, refl, ap, sym, ◌∙◌, subst, arith}
+use Rattle.std.proofs.Common.{◌≡◌, ℕ, zero, suc, ◌+◌, ◌<◌, ◌≤◌, Bool, true, false, ◌||◌, List, [], ◌∷◌, ◌++◌, map, filter, length, take, slice_index_or, Option, None, refl, ap, sym, ◌∙◌, subst}
 use Rattle.std.specs.List.{list_any}
 use Rattle.row.specs.Cells.{Datum, Cells, cell_at, datum_cmp, datum_of, has, row_cmp, same}
 use Rattle.row.specs.CellOrder.{row_total, row_same}
@@ -18,13 +18,12 @@ use Rattle.packet.proofs.Ascending.{ascends_filter}
 use Rattle.packet.specs.Lines.{entries_of}
 use Rattle.packet.specs.Messages.{StagePacketView}
 use Rattle.packet.specs.Readers.{Reader, is_of, readers}
-use Rattle.packet.specs.Truth.{IsLine, IsTrueStage}
-use Rattle.model.specs.Queries.{Line}
+use Rattle.packet.specs.Truth.{IsTrueStage}
 use Rattle.plan.specs.Layouts.{Layout, ViewLayout, no_view, view_at}
 use Rattle.protocol.specs.Stages.{of_stage_key}
 use Rattle.stage_sides.specs.Held.{IsSetOf}
 use Rattle.stage_steps.specs.Shards.{IsShard, Shard, gone_names, gone_to, stage_of}
-use Rattle.stage_steps.specs.Told.{evicts_at, names_in, perhaps, told, told_if}
+use Rattle.stage_steps.specs.Told.{names_in, perhaps, told, told_if}
 use Rattle.stage_steps.proofs.Truths.{still_true}
 
 or_flip : (a b c : Bool) → (a || (b || c)) ≡ (b || (a || c))

@@ -1,20 +1,18 @@
 -- What is put out, one part of a step after the other.
-use Rattle.std.proofs.Common.{◌≡◌, ℕ, zero, suc, ◌+◌, ◌≤◌, false, cond, List, [], ◌∷◌, ◌++◌, map, length, Option, Some, None, Result, Ok, Err, OnOk, refl, ap, sym, ◌∙◌, subst, arith}
+use Rattle.std.proofs.Common.{◌≡◌, ℕ, List, [], ◌∷◌, ◌++◌, map, refl, ap, sym, ◌∙◌, arith}
 use Rattle.std.proofs.lemmas.List.{length-map, map-append}
 use Rattle.row.specs.Bags.{Each}
-use Rattle.row.specs.Cells.{Datum}
 use Rattle.plan.specs.Layouts.{Layout}
 use Rattle.model.specs.Places.{sources}
-use Rattle.model.specs.Queries.{Line}
-use Rattle.packet.specs.Messages.{Ask, Sent, StagePacketView, none_of}
+use Rattle.packet.specs.Messages.{Ask, StagePacketView, none_of}
 use Rattle.packet.specs.Outboxes.{EdgeView, packets_on}
 use Rattle.packet.specs.Readers.{Reader, readers}
 use Rattle.packet.specs.Truth.{Pointwise, sent_of}
-use Rattle.protocol.specs.Stages.{Stage, Done}
-use Rattle.protocol.specs.StageSteps.{append_each, next, quiet}
+use Rattle.protocol.specs.Stages.{Done}
+use Rattle.protocol.specs.StageSteps.{append_each, quiet}
 use Rattle.stage_steps.specs.Outboxes.{AreEdges, OutboxView}
-use Rattle.stage_steps.specs.Shards.{AreTo, IsPut, IsTo, Shard, stage_of}
-use Rattle.stage_steps.proofs.Appends.{append_assoc_each, append_length, append_nothing}
+use Rattle.stage_steps.specs.Shards.{IsPut, IsTo, Shard, stage_of}
+use Rattle.stage_steps.proofs.Appends.{append_nothing}
 
 map_append_each : {X Y : Type 0} (f : X → Y) (xss yss : List (List X)) → map (map f) (append_each xss yss) ≡ append_each (map (map f) xss) (map (map f) yss)
 map_append_each f [] yss = refl

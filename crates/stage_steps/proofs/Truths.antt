@@ -10,7 +10,7 @@ use Rattle.packet.specs.Truth.{IsLine, IsTrueStage}
 use Rattle.protocol.proofs.Runs.{line_self}
 use Rattle.stage_steps.specs.Told.{answer_of, evicts_at, told}
 
-turns_none : (xs : List Cells) → Turns xs [] xs
+pub turns_none : (xs : List Cells) → Turns xs [] xs
 turns_none xs = record { each = λ z. refl }
 
 -- keys that go

@@ -1,7 +1,7 @@
 -- Values among others.
-use Rattle.std.proofs.Common.{◌≡◌, ℕ, Bool, true, false, cond, not, ◌||◌, ◌&&◌, List, [], ◌∷◌, ◌++◌, map, filter, take, slice_index_or, refl, ap, sym, ◌∙◌, subst}
+use Rattle.std.proofs.Common.{◌≡◌, ℕ, Bool, true, false, cond, not, ◌&&◌, List, [], ◌∷◌, map, filter, refl, ap}
 use Rattle.std.specs.List.{list_any}
-use Rattle.row.specs.Cells.{Datum, Cells, cell_at, datum_of, has_shard, same}
+use Rattle.row.specs.Cells.{Datum, cell_at, datum_of, has_shard}
 use Rattle.row.specs.declared.record.Record.{Record}
 use Rattle.row.specs.declared.value.Value.{Value}
 use Rattle.row.specs.Groups.{equal}

@@ -2,3 +2,4 @@ pub mod Told
 pub mod Outboxes
 pub mod Sides
 pub mod Shards
+pub mod Rows

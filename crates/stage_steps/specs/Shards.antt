@@ -1,27 +1,30 @@
 -- What a stage shard holds, and what a part of a step makes of it.
-use Rattle.std.specs.Prelude.{◌≡◌, ◌<◌, ◌∷◌, ℕ, cond, drop, false, length, List, [], map, None, Option, Some}
+use Rattle.std.specs.Prelude.{◌≡◌, ◌<◌, ◌∷◌, ℕ, cond, drop, false, IsSome, length, List, [], map, None, Option, Some}
 use Rattle.row.specs.Cells.{Datum, datum_cmp, datum_of, row_cmp}
 use Rattle.row.specs.Bags.{Each, IsAlike, sorted}
 use Rattle.row.specs.declared.value.Value.{Value}
 use Rattle.plan.specs.Layouts.{Layout, SideLayout, ViewLayout}
 use Rattle.plan.specs.Outputs.{keys_of}
 use Rattle.model.specs.Fronts.{LogView}
-use Rattle.model.specs.Places.{side_count, sources}
+use Rattle.model.specs.Places.{side_count, source_at, sources}
 use Rattle.model.specs.Queries.{Line, left}
 use Rattle.ops.specs.SideRows.{Rows}
 use Rattle.partial.specs.Sums.{sum_of_bags}
 use Rattle.partial.specs.Truth.{IsTrueOf}
 use Rattle.packet.specs.Lines.{AreOf, entries_of}
 use Rattle.packet.specs.Marks.{MarksView}
-use Rattle.packet.specs.Messages.{Ask, StagePacketView}
+use Rattle.packet.specs.Keys.{Keys}
+use Rattle.packet.specs.Messages.{Ask, BasePacketView, StagePacketView}
 use Rattle.packet.specs.Outboxes.{EdgeView, packets_on}
 use Rattle.packet.specs.Readers.{Reader, is_of, readers, view_of}
 use Rattle.packet.specs.Truth.{IsLine, Pointwise, right_shares, sent_of}
-use Rattle.protocol.specs.StageSteps.{put, right_count, with_piece}
+use Rattle.protocol.specs.StageSteps.{put, right_count, unknown, with_piece}
 use Rattle.protocol.specs.Stages.{Done, Stage, of_stage_key}
 use Rattle.right_rows.specs.Rights.{keys_in, state_in}
 use Rattle.stage_sides.specs.Held.{AreFound, Held}
+use Rattle.row.specs.declared.record.Record.{Record}
 use Rattle.stage_steps.specs.Outboxes.{OutboxView}
+use Rattle.stage_steps.specs.Sides.{names_of}
 use Rattle.stage_steps.specs.Told.{perhaps, told_if}
 
 -- a front of each source, its rows, the requests that wait, and the markers that have not come from all sources
@@ -38,10 +41,10 @@ abbrev pub stage_of : Shard → Stage
 stage_of x = record { plan = x.plan; shard = x.shard; line = entries_of x.line; right = keys_in x.rows.right; pending = x.pending; asked = None; marks = x.marks.waiting }
 
 -- ---- the truth over its line
--- what is kept at each stage key is true of the parts that the right sources have at these fronts; with no right side there is none
+-- the right side is by stage key, and what is kept at each is true of the parts that the right sources have at these fronts; with no right side there is none
 abbrev pub HoldsRight : Layout → ℕ → Option SideLayout → Line → Rows → Type 0
 HoldsRight p s None fronts right = right.keys ≡ None
-HoldsRight p s (Some side) fronts right = (right.sources ≡ right_count p) × ((k : Value) → IsTrueOf sum_of_bags (right_shares p s side (datum_of k) fronts) (state_in right (datum_of k)))
+HoldsRight p s (Some side) fronts right = IsSome right.keys × (right.sources ≡ right_count p) × ((k : Value) → IsTrueOf sum_of_bags (right_shares p s side (datum_of k) fronts) (state_in right (datum_of k)))
 
 -- its rows are those of stage shard s over the line
 pub record HoldsRows (p : Layout) (s : ℕ) (line : Line) (rows : Held) : Type 0 where
@@ -58,6 +61,14 @@ pub record IsShard (x : Shard) : Type 0 where
   pub senders : x.marks.senders ≡ length (sources x.plan)
   pub rows : HoldsRows x.plan x.shard (entries_of x.line) x.rows
   pub pending : Each (λ (a : Ask). view_of a.tag < length x.plan.views) x.pending
+
+-- ---- messages
+-- the packet is from this source to this stage shard
+pub record IsFrom (p : Layout) (s j : ℕ) (k : BasePacketView) : Type 0 where
+  pub plan : k.plan ≡ p
+  pub stage : k.stage ≡ s
+  pub source : j < length (sources p)
+  pub base : k.base ≡ source_at p j
 
 -- ---- what is put out
 -- the packet is from stage shard s to this reader
@@ -84,6 +95,14 @@ pub record IsSame (old new : Shard) : Type 0 where
   pub shard : new.shard ≡ old.shard
 
 -- ---- parts of a step
+-- a stage shard that has only this, as far as what it knows goes
+abbrev pub seen : Layout → ℕ → Line → Option Keys → Stage
+seen p s line right = record { plan = p; shard = s; line = line; right = right; pending = []; asked = None; marks = [] }
+
+-- the keys of views of which records of source j change what cannot be told
+abbrev pub entry_names : Layout → ℕ → Line → Option Keys → ℕ → List Record → List (List Datum)
+entry_names p s line right j records = names_of p (unknown (seen p s line right) j records)
+
 -- an answer to a request
 abbrev pub given : Stage → Ask → Done
 given s a = put s (λ asked r. cond (is_of s.plan (view_of a.tag) a.key r) (with_piece s.line a.key ∷ []) [])

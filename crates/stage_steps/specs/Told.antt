@@ -1,5 +1,5 @@
 -- What a stage shard tells view shards.
-use Rattle.std.specs.Prelude.{◌≡◌, ℕ, Bool, true, false, not, cond, List, [], ◌∷◌, map, filter, Option, Some, None, slice_index_or, Vec}
+use Rattle.std.specs.Prelude.{ℕ, Bool, true, false, not, cond, List, [], ◌∷◌, map, filter, Option, Some, None, slice_index_or, Vec}
 use Rattle.std.specs.Global.{Global}
 use Rattle.row.specs.Cells.{Datum, cell_at, datum_of, row_cmp}
 use Rattle.row.specs.declared.value.Value.{Value}

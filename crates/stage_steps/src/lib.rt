@@ -3,7 +3,12 @@
 #![tactic(auto)]
 
 mod edges;
+mod entries;
 mod keyed;
+mod looks;
+mod markers;
+mod orders;
 pub mod outbox;
 mod packets;
+mod pieces;
 pub mod shard;

@@ -42,9 +42,10 @@ pub(crate) fn packets<'a, F: Fronts>(
     each: bool,
 ) -> Result<Vec<Option<StagePacket<F>>>, AllocError>
     requires of { AreOf news.now.plan.now news.now.to.now }
-    requires truth { (r : ReaderView) → IsTrueStage (told news.now.plan.now news.now.stage
-        (entries_of news.now.from.now) (entries_of news.now.to.now) news.now.records.now
-        (names_in news.now.names.now) (mark_in news.now.marker) r) }
+    requires truth { (r : ReaderView) → r.view < length news.now.plan.now.views
+        → IsTrueStage (told news.now.plan.now news.now.stage (entries_of news.now.from.now)
+        (entries_of news.now.to.now) news.now.records.now (names_in news.now.names.now)
+        (mark_in news.now.marker) r) }
     ensures { IfOk result (λ v. v.items ≡ map (told_if each news.now.plan.now news.now.stage
         (entries_of news.now.from.now) (entries_of news.now.to.now) news.now.records.now
         (names_in news.now.names.now) (mark_in news.now.marker)) (readers news.now.plan.now)) }
@@ -66,9 +67,10 @@ fn push_view<'a, F: Fronts>(
 ) -> Result<(), AllocError>
     requires there { view < length news.now.plan.now.views }
     requires of { AreOf news.now.plan.now news.now.to.now }
-    requires truth { (r : ReaderView) → IsTrueStage (told news.now.plan.now news.now.stage
-        (entries_of news.now.from.now) (entries_of news.now.to.now) news.now.records.now
-        (names_in news.now.names.now) (mark_in news.now.marker) r) }
+    requires truth { (r : ReaderView) → r.view < length news.now.plan.now.views
+        → IsTrueStage (told news.now.plan.now news.now.stage (entries_of news.now.from.now)
+        (entries_of news.now.to.now) news.now.records.now (names_in news.now.names.now)
+        (mark_in news.now.marker) r) }
     ensures { OnOk result (all.new.items ≡ all.old.items ++ map (told_if each news.now.plan.now
         news.now.stage (entries_of news.now.from.now) (entries_of news.now.to.now)
         news.now.records.now (names_in news.now.names.now) (mark_in news.now.marker))

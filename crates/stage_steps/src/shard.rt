@@ -1,12 +1,18 @@
 //! A stage shard over its line of fronts.
-ghost use Rattle.std.specs.Prelude.{◌≡◌, ◌∷◌, [], OnOk, map};
+ghost use Rattle.std.specs.Prelude.{◌≡◌, ◌<◌, ◌∷◌, [], IfOk, None, OnOk, map};
+ghost use Rattle.std.specs.Option.{option_map};
+ghost use Rattle.row.specs.Bags.{Each};
 ghost use Rattle.row.specs.Cells.{datum_of};
+ghost use Rattle.model.specs.Fronts.{LogView};
+ghost use Rattle.packet.specs.Keys.{no_keys};
+ghost use Rattle.packet.specs.Lines.{AreOf, entries_of};
 ghost use Rattle.packet.specs.Outboxes.{packets_on};
 ghost use Rattle.packet.specs.Readers.{readers};
 ghost use Rattle.protocol.specs.StageSteps.{append_each, asks_for};
 ghost use Rattle.stage_steps.specs.Outboxes.{AreEdges};
-ghost use Rattle.stage_steps.specs.Shards.{IsShard, gone_to};
+ghost use Rattle.stage_steps.specs.Shards.{IsShard, gone_to, stage_of};
 
+use crate::entries::right_source;
 use crate::outbox::StageOutbox;
 use crate::packets::{News, packets};
 use model::fronts::Fronts;
@@ -24,12 +30,12 @@ use std::marker::Model;
 /// of the right side, and the markers that have not come from all sources.
 #[derive(Drop)]
 pub struct StageShard<'p, F: Fronts> {
-    plan: &'p Plan,
-    shard: usize,
-    line: Line<F>,
-    rows: StageRows<'p>,
-    pending: Vec<Request>,
-    marks: Marks,
+    pub(crate) plan: &'p Plan,
+    pub(crate) shard: usize,
+    pub(crate) line: Line<F>,
+    pub(crate) rows: StageRows<'p>,
+    pub(crate) pending: Vec<Request>,
+    pub(crate) marks: Marks,
 }
 
 impl<'p, F: Fronts> Model for StageShard<'p, F> {
@@ -48,12 +54,47 @@ impl<'p, F: Fronts> Model for StageShard<'p, F> {
 }
 
 impl<'p, F: Fronts> StageShard<'p, F> {
+    /// A stage shard over a line of fronts of empty logs: it has no rows, and where there is a right
+    /// side each stage key is a hole. Errors: memory only.
+    pub fn new(
+        alloc: Global,
+        plan: &'p Plan,
+        shard: usize,
+        line: Line<F>,
+    ) -> Result<StageShard<'p, F>, AllocError>
+        requires shard { shard < plan.now.stages }
+        requires of { AreOf plan.now line }
+        requires empty { Each (λ (l : LogView). l.entries ≡ []) line }
+        ensures whole { IfOk result (λ x. IsShard x) }
+        ensures line { IfOk result (λ x. x.line ≡ line) }
+        ensures stage { IfOk result (λ x. stage_of x ≡ record {
+          plan = plan.now;
+          shard = shard;
+          line = entries_of line;
+          right = option_map (λ side. no_keys) plan.now.right;
+          pending = [];
+          asked = None;
+          marks = [];
+        }) }
+    {
+        let sources = line.sources();
+        let rows = StageRows::new(alloc, plan, right_source(plan, sources))?;
+        Ok(StageShard {
+            plan,
+            shard,
+            line,
+            rows,
+            pending: Vec::new(alloc),
+            marks: Marks::new(alloc, sources),
+        })
+    }
+
     /// Tells each view shard of its keys that have left rows of a stage key, of which no change can
     /// be told any more: it evicts them, in order and each once; one that has none is told nothing.
     /// Errors: memory only; then some are told. Cost: for each view a copy of the key of each left
     /// row of the stage key and a sort of them, and for each view shard that is told a copy of the
     /// line.
-    pub fn tell_gone(
+    pub(crate) fn tell_gone(
         &self,
         alloc: Global,
         key: &Value,
@@ -86,7 +127,7 @@ impl<'p, F: Fronts> StageShard<'p, F> {
 
 /// Asks each right source for a stage key, behind what it is asked for already. Errors: memory only;
 /// then some are asked. Cost: a copy of the key for each.
-pub fn ask_sources<F: Fronts>(
+pub(crate) fn ask_sources<F: Fronts>(
     alloc: Global,
     plan: &Plan,
     key: &Value,

@@ -1,4 +1,4 @@
-use Rattle.std.proofs.Common.{◌∙◌, ◌≤◌, length, map, filter, sym, ap, arith}
+use Rattle.std.proofs.Common.{◌∙◌, map, filter, sym, ap, arith}
 use Rattle.std.proofs.lemmas.List.{take_all}
 use Rattle.row.specs.Cells.{datum_of}
 use Rattle.stage_steps.proofs.Words.{told_are, keyed_by, told_by}

@@ -5,7 +5,7 @@ use Rattle.packet.specs.Readers.{Reader}
 use Rattle.packet.specs.Lines.{AreOf, entries_of, plan_of}
 use Rattle.packet.specs.Truth.{IsTrueStage}
 use Rattle.plan.specs.Layouts.{ViewLayout}
-use Rattle.stage_steps.specs.Told.{evicts_at, is_told, names_in, told, told_changes}
+use Rattle.stage_steps.specs.Told.{evicts_at, is_told, names_in, told}
 use Rattle.stage_steps.proofs.Readers.{told_is}
 use Rattle.stage_steps.proofs.Lines.{plan_is, same_packet}
 use Rattle.stage_steps.proofs.packets.packet_to.Goals as goal

@@ -8,7 +8,7 @@ use Rattle.stage_steps.proofs.Readers.{put_reader}
 use Rattle.stage_steps.proofs.packets.push_view.Goals as goal
 
 pub packet_to-requires-clause-truth : goal.packet_to-requires-clause-truth
-packet_to-requires-clause-truth g c = c.requires.truth (record { view = c.args.view; shard = c.loop-shard.shard })
+packet_to-requires-clause-truth g c = c.requires.truth (record { view = c.args.view; shard = c.loop-shard.shard }) c.requires.there
 
 pub loop-shard-preserved : goal.loop-shard-preserved
 loop-shard-preserved g c =

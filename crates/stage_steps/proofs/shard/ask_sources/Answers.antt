@@ -1,8 +1,7 @@
-use Rattle.std.proofs.Common.{◌≡◌, ◌+◌, ◌<◌, ◌≤◌, ◌∷◌, [], length, map, ◌∙◌, refl, ap, arith, subst}
+use Rattle.std.proofs.Common.{◌≡◌, ◌<◌, ◌≤◌, length, map, ◌∙◌, refl, arith, subst}
 use Rattle.std.specs.List.{range_with_len}
 use Rattle.row.specs.Cells.{datum_of}
 use Rattle.model.specs.Places.{side_count, sources}
-use Rattle.plan.specs.Layouts.{TableLayout}
 use Rattle.packet.specs.Outboxes.{packets_on}
 use Rattle.protocol.specs.StageSteps.{append_each}
 use Rattle.stage_steps.proofs.Asks.{asked_of, lefts_asked, asked_more, lefts_small, lefts_are, request_is}

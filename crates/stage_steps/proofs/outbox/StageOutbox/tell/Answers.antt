@@ -1,4 +1,4 @@
-use Rattle.std.proofs.Common.{◌≡◌, ◌<◌, ◌∷◌, ◌++◌, [], length, append_assoc, map, sym, ◌∙◌, ap, refl, subst}
+use Rattle.std.proofs.Common.{◌≡◌, ◌∷◌, ◌++◌, [], length, append_assoc, map, sym, ◌∙◌, ap, refl, subst}
 use Rattle.std.proofs.lemmas.List.{append-nil}
 use Rattle.packet.specs.Outboxes.{packets_on}
 use Rattle.packet.proofs.Sends.{none_left}

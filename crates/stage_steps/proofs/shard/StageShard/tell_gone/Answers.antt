@@ -1,8 +1,7 @@
-use Rattle.std.proofs.Common.{◌≡◌, ◌<◌, ◌≤◌, [], None, false, filter, length, map, ap, sym, ◌∙◌, subst, arith}
+use Rattle.std.proofs.Common.{◌<◌, ◌≤◌, filter, length, map, ap, sym, ◌∙◌, subst, arith}
 use Rattle.std.proofs.lemmas.Result.{on_ok_weaker}
 use Rattle.row.specs.Cells.{cell_at, datum_of, has}
 use Rattle.plan.specs.Layouts.{view_at}
-use Rattle.packet.specs.Lines.{entries_of}
 use Rattle.packet.specs.Outboxes.{packets_on}
 use Rattle.packet.specs.Readers.{readers}
 use Rattle.protocol.specs.StageSteps.{append_each}
@@ -21,7 +20,7 @@ loop-view-preserved g c =
     names_more x k c.loop-view.view c.loop-view.names.items c.push.new.self.items c.in_ok-ahead.field-0 c.requires.whole lt c.loop-view.invariant c.in_ok-push.ensures.items set
 
 pub packets-requires-clause-truth : goal.packets-requires-clause-truth
-packets-requires-clause-truth g c r =
+packets-requires-clause-truth g c r lt =
     let k = datum_of c.args.key.now in
     let all : length c.args.self.now.plan.views ≤ c.loop-view.view = subst (λ (x : Shard). length x.plan.views ≤ c.loop-view.view) c.self.view_is (omega (arith, c.loop-view-test.false, c.views-view-end.ensures)) in
     let is = names_all c.args.self.now k c.loop-view.view c.loop-view.names.items all c.loop-view.invariant in
