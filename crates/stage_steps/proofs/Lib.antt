@@ -29,3 +29,4 @@ pub mod Sents
 pub mod Changed
 pub mod Takes
 pub mod Moves
+pub mod Joined

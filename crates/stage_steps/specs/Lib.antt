@@ -3,3 +3,4 @@ pub mod Outboxes
 pub mod Sides
 pub mod Shards
 pub mod Rows
+pub mod Codes

@@ -1,5 +1,5 @@
 -- What a stage shard holds, and what a part of a step makes of it.
-use Rattle.std.specs.Prelude.{◌≡◌, ◌<◌, ◌∷◌, ℕ, cond, drop, false, IsSome, length, List, [], map, None, Option, Some}
+use Rattle.std.specs.Prelude.{◌≡◌, ◌<◌, ◌∷◌, ℕ, cond, drop, false, IsSome, length, List, [], map, None, Option, Some, slice_get}
 use Rattle.row.specs.Cells.{Datum, datum_cmp, datum_of, row_cmp}
 use Rattle.row.specs.Bags.{Each, IsAlike, sorted}
 use Rattle.row.specs.declared.value.Value.{Value}
@@ -19,7 +19,7 @@ use Rattle.packet.specs.Outboxes.{EdgeView, packets_on}
 use Rattle.packet.specs.Readers.{Reader, is_of, readers, view_of}
 use Rattle.packet.specs.Truth.{IsLine, Pointwise, right_shares, sent_of}
 use Rattle.protocol.specs.StageSteps.{put, right_count, unknown, with_piece}
-use Rattle.protocol.specs.Stages.{Done, Stage, of_stage_key}
+use Rattle.protocol.specs.Stages.{Done, Stage, ToStage, of_stage_key, order, packet, request}
 use Rattle.right_rows.specs.Rights.{keys_in, state_in}
 use Rattle.stage_sides.specs.Held.{AreFound, Held}
 use Rattle.row.specs.declared.record.Record.{Record}
@@ -95,6 +95,12 @@ pub record IsSame (old new : Shard) : Type 0 where
   pub shard : new.shard ≡ old.shard
 
 -- ---- parts of a step
+-- the message is for it: a packet is from its source and starts at the front that is held, and a request is of a view of the plan
+abbrev pub Meets : Shard → ToStage → Type 0
+Meets x (packet j k) = IsFrom x.plan x.shard j k × (slice_get (entries_of x.line) j ≡ Some k.from)
+Meets x (request a) = view_of a.tag < length x.plan.views
+Meets x (order k) = Unit {0}
+
 -- a stage shard that has only this, as far as what it knows goes
 abbrev pub seen : Layout → ℕ → Line → Option Keys → Stage
 seen p s line right = record { plan = p; shard = s; line = line; right = right; pending = []; asked = None; marks = [] }

@@ -34,10 +34,10 @@ impl<'p, F: Fronts> StageShard<'p, F> {
     /// Takes the packet of an entry, which starts at the front that the line has of its source: the
     /// rows of its side change, the front goes on, and each view shard gets a packet from the old
     /// line to the new. It evicts the keys whose change cannot be told, since right rows of some of
-    /// their stage keys are not here. Errors: memory only; then nothing is said of the rows, and some
-    /// are told. Cost: that of `StageRows::untold` for each view, that of `StageRows::change`, and
-    /// for each view shard a look at each record of the output and a copy of the line.
-    pub fn take_entry(
+    /// their stage keys are not here. Errors: memory only; then nothing is said of the rows, and
+    /// some are told. Cost: that of `StageRows::untold` for each view, that of `StageRows::change`,
+    /// and for each view shard a look at each record of the output and a copy of the line.
+    pub(crate) fn take_entry(
         &mut self,
         alloc: Global,
         source: usize,
@@ -125,8 +125,8 @@ fn keeps_order<'p>(rows: &StageRows<'p>)
     rows.keeps_order();
 }
 
-/// Changes the rows of the side by those of the records that it takes, and answers what that changes
-/// of the output over the rows that are here.
+/// Changes the rows of the side by those of the records that it takes, and answers what that
+/// changes of the output over the rows that are here.
 fn change<'p>(
     rows: &mut StageRows<'p>,
     alloc: Global,

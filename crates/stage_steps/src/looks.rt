@@ -25,13 +25,14 @@ use std::alloc::{AllocError, Global};
 use std::mem;
 
 impl<'p, F: Fronts> StageShard<'p, F> {
-    /// Looks at each request that waits, in order of arrival: the stage keys behind its key begin to
-    /// wait where they are holes, and each right source is asked for those; where all right rows of
-    /// all of them are here it is answered with one packet to the view shard of its key, else it
-    /// waits on. Errors: memory only; then some are told or asked. Cost: for each request the left
-    /// rows of its key; for a key that begins to wait a copy of it for each right source; for an
-    /// answer that of `StageRows::piece` and a copy of the line.
-    pub fn look(&mut self, alloc: Global, out: &mut StageOutbox<F>) -> Result<(), AllocError>
+    /// Looks at each request that waits, in order of arrival: the stage keys behind its key begin
+    /// to wait where they are holes, and each right source is asked for those; where all right rows
+    /// of all of them are here it is answered with one packet to the view shard of its key, else it
+    /// waits on. Errors: memory only; then nothing is said of the shard, and some are told or
+    /// asked. Cost: for each request the left rows of its key; for a key that begins to wait a copy
+    /// of it for each right source; for an answer that of `StageRows::piece` and a copy of the
+    /// line.
+    pub(crate) fn look(&mut self, alloc: Global, out: &mut StageOutbox<F>) -> Result<(), AllocError>
         requires whole { IsShard self.old }
         requires edges { AreEdges self.old.plan out.old }
         ensures whole { OnOk result (IsShard self.new) }
@@ -115,7 +116,8 @@ impl<'p, F: Fronts> StageShard<'p, F> {
         ask_sources(alloc, self.plan, key, out)
     }
 
-    /// Answers a request, if all right rows of the stage keys that it needs are here; else it waits.
+    /// Answers a request, if all right rows of the stage keys that it needs are here; else it
+    /// waits.
     fn answer(
         &mut self,
         alloc: Global,

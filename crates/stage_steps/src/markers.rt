@@ -20,9 +20,9 @@ use std::alloc::{AllocError, Global};
 
 impl<'p, F: Fronts> StageShard<'p, F> {
     /// Takes a marker of a source, and sends it on to each view shard once it has come from all.
-    /// Errors: memory only; then some are told. Cost: a look at each marker that waits, and for one
-    /// that is sent on a copy of the line for each view shard.
-    pub fn take_marker(
+    /// Errors: memory only; then nothing is said of the markers, and some are told. Cost: a look at
+    /// each marker that waits, and for one that is sent on a copy of the line for each view shard.
+    pub(crate) fn take_marker(
         &mut self,
         alloc: Global,
         source: usize,

@@ -13,10 +13,11 @@ use row::value::Value;
 use std::alloc::{AllocError, Global};
 
 impl<'p, F: Fronts> StageShard<'p, F> {
-    /// Makes a filled stage key a hole, and tells each view shard of its keys that have left rows of
-    /// it; any other key stays, and nobody is told. Errors: memory only; then some are told. Cost:
-    /// that of `tell_gone` where the key was filled, else a look-up by hash.
-    pub fn evict(
+    /// Makes a filled stage key a hole, and tells each view shard of its keys that have left rows
+    /// of it; any other key stays, and nobody is told. Errors: memory only; then nothing is said of
+    /// the shard, and some are told. Cost: that of `tell_gone` where the key was filled, else a
+    /// look-up by hash.
+    pub(crate) fn evict(
         &mut self,
         alloc: Global,
         key: &Value,
@@ -39,9 +40,13 @@ impl<'p, F: Fronts> StageShard<'p, F> {
 
     /// While no request waits, makes so many stage keys holes that the filled ones are no more than
     /// the cap, those first that were filled first, and tells each view shard of its keys that have
-    /// left rows of them. Errors: memory only; then some are told. Cost: that of `tell_gone` for
-    /// each key that goes.
-    pub fn keep_cap(&mut self, alloc: Global, out: &mut StageOutbox<F>) -> Result<(), AllocError>
+    /// left rows of them. Errors: memory only; then nothing is said of the shard, and some are
+    /// told. Cost: that of `tell_gone` for each key that goes.
+    pub(crate) fn keep_cap(
+        &mut self,
+        alloc: Global,
+        out: &mut StageOutbox<F>,
+    ) -> Result<(), AllocError>
         requires whole { IsShard self.old }
         requires edges { AreEdges self.old.plan out.old }
         ensures whole { OnOk result (IsShard self.new) }

@@ -106,8 +106,7 @@ impl<F: Fronts> StageOutbox<F> {
         Ok(())
     }
 
-    /// Puts a packet to a view shard, if there is one, behind what is there. Errors: memory only;
-    /// then nothing changes.
+    /// Puts a packet to a view shard, if there is one, behind what is there. Errors: memory only.
     pub(crate) fn tell_one(
         &mut self,
         reader: usize,
@@ -126,8 +125,7 @@ impl<F: Fronts> StageOutbox<F> {
         }
     }
 
-    /// Asks a source, behind what it is asked for already. Errors: memory only; then nothing
-    /// changes.
+    /// Asks a source, behind what it is asked for already. Errors: memory only.
     pub(crate) fn ask(&mut self, source: usize, request: Request) -> Result<(), AllocError>
         requires { source < length self.old.requests }
         ensures asked { OnOk result (packets_on self.new.requests

@@ -21,9 +21,9 @@ impl<'p, F: Fronts> StageShard<'p, F> {
     /// rows that a right source has of a stage key that waits for them; with the last of them the
     /// key is filled, behind all that are. A piece of a left source, by a tag of a view, of a key
     /// that does not wait or that has the source's piece changes nothing. It puts out nothing.
-    /// Errors: memory only; then nothing is said of the right side. Cost: that of
+    /// Errors: memory only; then nothing is said of the shard. Cost: that of
     /// `StageRows::give`.
-    pub fn take_piece(
+    pub(crate) fn take_piece(
         &mut self,
         alloc: Global,
         source: usize,

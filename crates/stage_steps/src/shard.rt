@@ -26,8 +26,8 @@ use stage_sides::rows::StageRows;
 use std::alloc::{AllocError, Global};
 use std::marker::Model;
 
-/// A stage shard over a front of each source: the rows of its sides, the requests that wait for rows
-/// of the right side, and the markers that have not come from all sources.
+/// A stage shard over a front of each source: the rows of its sides, the requests that wait for
+/// rows of the right side, and the markers that have not come from all sources.
 #[derive(Drop)]
 pub struct StageShard<'p, F: Fronts> {
     pub(crate) plan: &'p Plan,
@@ -54,8 +54,8 @@ impl<'p, F: Fronts> Model for StageShard<'p, F> {
 }
 
 impl<'p, F: Fronts> StageShard<'p, F> {
-    /// A stage shard over a line of fronts of empty logs: it has no rows, and where there is a right
-    /// side each stage key is a hole. Errors: memory only.
+    /// A stage shard over a line of fronts of empty logs: it has no rows, and where there is a
+    /// right side each stage key is a hole. Errors: memory only.
     pub fn new(
         alloc: Global,
         plan: &'p Plan,
@@ -87,6 +87,13 @@ impl<'p, F: Fronts> StageShard<'p, F> {
             pending: Vec::new(alloc),
             marks: Marks::new(alloc, sources),
         })
+    }
+
+    /// The line of fronts that it holds, one of each source of its plan.
+    pub fn line(&self) -> &Line<F>
+        ensures { result.now ≡ self.now.line }
+    {
+        &self.line
     }
 
     /// Tells each view shard of its keys that have left rows of a stage key, of which no change can
@@ -125,8 +132,8 @@ impl<'p, F: Fronts> StageShard<'p, F> {
     }
 }
 
-/// Asks each right source for a stage key, behind what it is asked for already. Errors: memory only;
-/// then some are asked. Cost: a copy of the key for each.
+/// Asks each right source for a stage key, behind what it is asked for already. Errors: memory
+/// only; then some are asked. Cost: a copy of the key for each.
 pub(crate) fn ask_sources<F: Fronts>(
     alloc: Global,
     plan: &Plan,

@@ -1,0 +1,15 @@
+use Rattle.std.proofs.Common.{subst}
+use Rattle.protocol.specs.Stages.{Done}
+use Rattle.protocol.specs.StageSteps.{looks, next, quiet, takes}
+use Rattle.stage_steps.specs.Codes.{message_of}
+use Rattle.stage_steps.specs.Shards.{IsPut, stage_of}
+use Rattle.stage_steps.proofs.Joined.{first_is, put_start}
+use Rattle.stage_steps.proofs.shard.StageShard.step.Goals as goal
+
+pub returns-clause-done : goal.returns-clause-done
+returns-clause-done g c =
+    let s = stage_of c.args.self.now in
+    let m = message_of c.args.message in
+    let first = subst (λ (d : Done). IsPut d c.take.new.out c.take.new.self) (first_is s m) (c.in_ok-take.ensures.done (quiet s) (put_start c.args.self.now c.args.out.now c.requires.silent c.requires.edges)) in
+    let second = c.in_ok-look.ensures.done (takes s m) first in
+    c.keep_cap.ensures.done (next (takes s m) looks) second
