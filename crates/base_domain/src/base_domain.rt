@@ -11,7 +11,9 @@ ghost use Rattle.model.specs.Places.{layout_of, table_of};
 ghost use Rattle.protocol.specs.BaseSteps.{appended, quiet, step, still, piece_for};
 ghost use Rattle.base_domain.specs.Codes.{message_of, write_of};
 ghost use Rattle.base_domain.specs.Told.{IsTurn, parts_in};
-ghost use Rattle.base.specs.Shards.{HasKey};
+ghost use Rattle.base.specs.Shards.{HasKey, IsAt};
+ghost use Rattle.plan.specs.Layouts.{table_at};
+ghost use Rattle.model.specs.Legal.{limit};
 
 use crate::message::{ToBase, Write};
 use crate::packets::{marker_packet, piece_packet, side_at};
@@ -83,7 +85,7 @@ impl<'p, F: Fronts> BaseDomain<'p, F> {
         Ok(BaseDomain {
             plan,
             table,
-            shard: BaseShard::new(alloc, plan.table(table).key(), LIMIT),
+            shard: no_rows(alloc, plan, table)?,
             right,
             next,
             stopped: false,
@@ -376,5 +378,27 @@ impl<'p, F: Fronts> BaseDomain<'p, F> {
             ToBase::Request { stage, request } => self.answer_request(alloc, stage, request, out),
             ToBase::Marker(marker) => self.pass_marker(alloc, marker, out),
         }
+    }
+}
+
+/// The shard of a table without rows. Where the table is the right one of the stage it finds rows
+/// by the key of that side, by which stage shards ask. Errors: memory only.
+fn no_rows(alloc: Global, plan: &Plan, table: usize) -> Result<BaseShard, AllocError>
+    requires { table < length plan.now.tables }
+    ensures empty { IfOk result (λ s. s ≡ record {
+      key = (table_at plan.now table).key;
+      limit = limit;
+      rows = [];
+      length = 0;
+      room = None;
+    }) }
+    ensures front { IfOk result (λ s. IsAt s []) }
+{
+    let key = plan.table(table).key();
+    match plan.right() {
+        Some(side) if side.table() == table => {
+            BaseShard::with_indexes(alloc, key, LIMIT, &[side.key()])
+        }
+        _ => Ok(BaseShard::new(alloc, key, LIMIT)),
     }
 }

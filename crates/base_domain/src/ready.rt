@@ -75,6 +75,7 @@ pub(crate) fn ready_for<F: Fronts>(
 {
     let kept = entry.try_clone(alloc)?;
     out.reserve()?;
+    shard.reserve_indexes(alloc, entry)?;
     shard.reserve(alloc, entry)?;
     Ok(kept)
 }

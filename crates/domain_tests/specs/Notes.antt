@@ -7,7 +7,7 @@ use Rattle.model.specs.Logs.{inserts}
 use Rattle.packet.specs.Messages.{BasePacketView, StagePacketView}
 use Rattle.packet.specs.declared.mode.Mode.TheVariants.{Running}
 use Rattle.protocol.specs.Stages.{ToStage}
-use Rattle.stage_domain.specs.Domains.{Domain, Meets}
+use Rattle.stage_domain.specs.Domains.{Domain, IsNew, Meets}
 use Rattle.view_domain.specs.Domains as view
 
 -- note 1 of author 7
@@ -35,9 +35,9 @@ pub record IsOfNotes (k : BasePacketView) : Type 0 where
 abbrev pub no_piece : StagePacketView
 no_piece = record { plan = notes_plan; stage = 0; view = 0; shard = 0; from = [] ∷ []; to = [] ∷ []; changes = []; evicts = []; piece = Some (record { tag = 1; key = int (pos 7); rows = [] }); marker = None }
 
--- the stage shard at the log without a note
-abbrev pub first_stage : Domain
-first_stage = record { plan = notes_plan; shard = 0; line = no_notes ∷ []; marks = []; mode = Running }
+-- it is the stage shard at the log without a note
+abbrev pub IsFirstStage : Domain → Type 0
+IsFirstStage d = IsNew notes_plan 0 (no_notes ∷ []) d
 
 -- the view shard there, with no key
 abbrev pub first_view : view.Domain
@@ -54,4 +54,4 @@ first_view = record {
 
 -- the message is for the stage shard at the log without a note
 pub record IsForFirst (are_one : LogView → LogView → Type 0) (m : ToStage) : Type 0 where
-  pub meets : Meets are_one first_stage m
+  pub meets : (d : Domain) → IsFirstStage d → Meets are_one d m

@@ -2,9 +2,9 @@
 //! out of turn.
 ghost use Rattle.std.specs.Prelude.{◌≡◌, IfOk};
 ghost use Rattle.plan.specs.Recipes.{notes_plan};
-ghost use Rattle.stage_domain.specs.Codes.{message_of};
+ghost use Rattle.stage_steps.specs.Codes.{message_of};
 ghost use Rattle.stage_domain.specs.Domains.{Meets};
-ghost use Rattle.domain_tests.specs.Notes.{first_stage, IsForFirst, IsOfNotes};
+ghost use Rattle.domain_tests.specs.Notes.{IsFirstStage, IsForFirst, IsOfNotes};
 
 use crate::notes::{AUTHOR, MARKER, Notes};
 use model::fronts::Fronts;
@@ -14,9 +14,9 @@ use packet::request::Request;
 use packet::stage_packet::StagePacket;
 use plan::domain::Tag;
 use row::refused::Refused;
-use stage_domain::message::ToStage;
-use stage_domain::outbox::StageOutbox;
 use stage_domain::stage_domain::StageDomain;
+use stage_steps::message::ToStage;
+use stage_steps::outbox::StageOutbox;
 use std::alloc::{AllocError, Global};
 
 /// What comes to the stage shard without a note: the first note, a marker, a marker behind the
@@ -44,7 +44,7 @@ fn first_stage<'p, F: Fronts>(
     alloc: Global,
     notes: &Notes<'p, F>,
 ) -> Result<StageDomain<'p, F>, AllocError>
-    ensures { IfOk result (λ d. d ≡ first_stage) }
+    ensures { IfOk result IsFirstStage }
 {
     StageDomain::new(alloc, notes.plan(), 0, notes.line(alloc)?)
 }

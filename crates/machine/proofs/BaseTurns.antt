@@ -23,7 +23,7 @@ use Rattle.protocol.proofs.Lists.{or_of}
 use Rattle.protocol.proofs.Spots.{found, same_is, position_small}
 use Rattle.base_domain.specs.Domains.{Domain}
 use Rattle.base_domain.specs.Received.{base_at, verdict_of, Goes, IsDone, Stays}
-use Rattle.stage_domain.specs.Domains.{IsFrom}
+use Rattle.stage_steps.specs.Shards.{IsFrom}
 use Rattle.machine.specs.Held.{AreQueued}
 use Rattle.machine.specs.Turned.{IsBaseTurn}
 use Rattle.machine.proofs.Queued.{queued_pushed}

@@ -19,7 +19,8 @@ use Rattle.protocol.specs.Worlds.{Node}
 use Rattle.protocol.specs.WorldSteps.{is_up}
 use Rattle.protocol.proofs.Every.{every_turn}
 use Rattle.protocol.proofs.Lists.{map_get, or_of}
-use Rattle.stage_domain.specs.Domains.{Domain as StageDomain, stage_of, Meets, IsFrom, log_of}
+use Rattle.stage_domain.specs.Domains.{Domain as StageDomain, stage_of, Meets, log_of}
+use Rattle.stage_steps.specs.Shards.{IsFrom}
 use Rattle.view_domain.specs.Domains.{Domain as ViewDomain}
 use Rattle.machine.specs.Held.{Held, IsPlaced, IsWhole, IsStageOf, IsViewOf, AgreeingAreOne, world_of, stage_node, runs}
 use Rattle.machine.proofs.Queued.{first_queued, map_or}

@@ -1,22 +1,20 @@
 -- A message to a stage shard: where it and its packets stand then.
-use Rattle.std.proofs.Common.{Bool, ◌≡◌, ◌≢◌, ℕ, zero, suc, ◌<◌, true, List, [], ◌∷◌, map, Option, Some, None, slice_get, slice_index_or, refl, ap, sym, ◌∙◌, subst}
+use Rattle.std.proofs.Common.{Bool, ◌≡◌, ℕ, zero, suc, ◌<◌, true, List, [], ◌∷◌, map, Some, slice_get, slice_index_or, refl, ap, sym, ◌∙◌, subst}
 use Rattle.row.specs.Bags.{Each}
 use Rattle.plan.specs.Layouts.{Layout}
-use Rattle.packet.specs.Lines.{entries_of}
-use Rattle.packet.specs.Messages.{Ask, BasePacketView, StagePacketView, Piece, Mark}
+use Rattle.packet.specs.Messages.{Ask, StagePacketView}
 use Rattle.packet.specs.Outboxes.{packets_on}
 use Rattle.packet.specs.Readers.{Reader, readers}
 use Rattle.packet.specs.Truth.{Pointwise, sent_of}
-use Rattle.packet.specs.declared.mode.Mode.{Mode}
-use Rattle.packet.specs.declared.mode.Mode.TheVariants as mode
 use Rattle.protocol.specs.Edges.{pushed}
-use Rattle.protocol.specs.Stages.{Stage, ToStage, packet, request, order, Done}
+use Rattle.protocol.specs.Stages.{Stage, ToStage}
 use Rattle.protocol.specs.StageSteps.{step}
-use Rattle.stage_domain.specs.Domains.{Domain, stage_of, IsTo, IsDone}
-use Rattle.stage_domain.specs.Outboxes.{OutboxView}
-use Rattle.stage_domain.proofs.FullSteps.{entry_step, marker_step, piece_step, request_step}
+use Rattle.stage_domain.specs.Domains.{Domain, stage_of, IsDone}
+use Rattle.stage_steps.specs.Outboxes.{OutboxView}
+use Rattle.stage_steps.specs.Shards.{IsTo}
 use Rattle.protocol.specs.Worlds.{Node}
 use Rattle.protocol.proofs.Lists.{each_to}
+use Rattle.stage_domain.proofs.Starts.{running_whole}
 use Rattle.machine.specs.Held.{IsStageOf, IsSentBy, IsStageAsk, AreQueued, runs}
 use Rattle.machine.specs.Turned.{IsStageTurn}
 use Rattle.machine.proofs.Queued.{queued_pushed, map_pushed}
@@ -26,29 +24,6 @@ reader i j = record { view = i; shard = j }
 
 abbrev node : Stage → Bool → Node Stage
 node x b = record { is = x; runs = b }
-
--- it is still the shard of its plan
-record Stays (d : Domain) (done : Done) : Type 0 where
-  plan : done.stage.plan ≡ d.plan
-  shard : done.stage.shard ≡ d.shard
-
-stays_packet : (d : Domain) (j : ℕ) (k : BasePacketView) (piece : Option Piece) (m : Option Mark) → k.piece ≡ piece → k.marker ≡ m → Stays d (step (stage_of d) (packet j k))
-stays_packet d j k (Some piece) m e f =
-    let s = piece_step d.plan d.shard (entries_of d.line) d.marks j k piece e in
-    record { plan = ap (λ (x : Done). x.stage.plan) s; shard = ap (λ (x : Done). x.stage.shard) s }
-stays_packet d j k None (Some m) e f =
-    let s = marker_step d.plan d.shard (entries_of d.line) d.marks j k m e f in
-    record { plan = ap (λ (x : Done). x.stage.plan) s; shard = ap (λ (x : Done). x.stage.shard) s }
-stays_packet d j k None None e f =
-    let s = entry_step d.plan d.shard (entries_of d.line) d.marks j k e f in
-    record { plan = ap (λ (x : Done). x.stage.plan) s; shard = ap (λ (x : Done). x.stage.shard) s }
-
-stays : (d : Domain) (m : ToStage) → Stays d (step (stage_of d) m)
-stays d (packet j k) = stays_packet d j k k.piece k.marker refl refl
-stays d (request a) =
-    let s = request_step d.plan d.shard (entries_of d.line) d.marks a in
-    record { plan = ap (λ (x : Done). x.stage.plan) s; shard = ap (λ (x : Done). x.stage.shard) s }
-stays d (order x) = record { plan = refl; shard = refl }
 
 -- the packets to a reader stand at its place
 at_place : {X Y : Type 0} (To : X → Y → Type 0) (Is : ℕ → Y → Type 0) (rs : List X) (xss : List (List Y)) → Pointwise (λ r xs. Each (To r) xs) rs xss → ((r : ℕ) (x : X) → slice_get rs r ≡ Some x → (y : Y) → To x y → Is r y)
@@ -65,28 +40,23 @@ sent_by p s lt r x at y to = record { plan = to.plan; stage = to.stage; place = 
     same : (x : Reader) (y : StagePacketView) → y.view ≡ x.view → y.shard ≡ x.shard → x ≡ record { view = y.view; shard = y.shard }
     same x y e f = ap (λ i. reader i x.shard) (sym e) ∙ ap (λ j. reader y.view j) (sym f)
 
-pub running_whole : (m : Mode) → m ≡ mode.Running → m ≢ mode.Broken
-running_whole m is e = let no : mode.Running ≡ mode.Broken = sym is ∙ e in cc
-
 -- what holds of all holds of each
 all_hold : {X : Type 0} (P : X → Type 0) → ((x : X) → P x) → (xs : List X) → Each P xs
 all_hold P h [] = tt
 all_hold P h (x ∷ xs) = (h x, all_hold P h xs)
 
-pub stage_turn : (s : ℕ) (old new : Domain) (m : ToStage) (out : OutboxView) (before after : List (List (List StagePacketView))) (asked asks : List (List (List Ask))) → IsStageOf old.plan s old → IsDone (step (stage_of old) m) out new → after ≡ pushed s (packets_on out.packets) before
+pub stage_turn : (s : ℕ) (old new : Domain) (m : ToStage) (out : OutboxView) (before after : List (List (List StagePacketView))) (asked asks : List (List (List Ask))) → IsStageOf old.plan s old → IsDone (step (stage_of old) m) out new → new.plan ≡ old.plan → new.shard ≡ old.shard → after ≡ pushed s (packets_on out.packets) before
     → asks ≡ pushed s (packets_on out.requests) asked → IsStageTurn old.plan s (step (stage_of old) m) before asked new after asks
-stage_turn s old new m out before after asked asks is done put added =
-    let stay = stays old m in
-    let plan : new.plan ≡ old.plan = ap (λ (x : Stage). x.plan) done.stage ∙ stay.plan in
-    let shard : new.shard ≡ s = ap (λ (x : Stage). x.shard) done.stage ∙ (stay.shard ∙ is.shard) in
-    let to : Pointwise (λ r xs. Each (IsTo old.plan s r) xs) (readers old.plan) (packets_on out.packets) = rw (← plan, ← shard) done.to in
+stage_turn s old new m out before after asked asks is done plan same put added =
+    let shard : new.shard ≡ s = same ∙ is.shard in
+    let to : Pointwise (λ r xs. Each (IsTo old.plan s r) xs) (readers old.plan) (packets_on out.packets) = rw (← plan, ← shard) done.put.to in
     record {
-      node = ap (λ b. node (stage_of new) b) (ap runs done.running) ∙ ap (λ x. node x true) done.stage;
+      node = ap (λ b. node (stage_of new) b) (ap runs done.running) ∙ ap (λ x. node x true) done.put.stage;
       is = record { plan = plan; shard = shard; place = is.place; whole = running_whole new.mode done.running };
-      sent = ap (map (map (map sent_of))) put ∙ (map_pushed sent_of s (packets_on out.packets) before ∙ ap (λ xss. pushed s xss (map (map (map sent_of)) before)) done.sent);
+      sent = ap (map (map (map sent_of))) put ∙ (map_pushed sent_of s (packets_on out.packets) before ∙ ap (λ xss. pushed s xss (map (map (map sent_of)) before)) done.put.sent);
       queued = λ h. subst (AreQueued (IsSentBy old.plan)) (sym put)
           (queued_pushed (IsSentBy old.plan) s (packets_on out.packets) before h (at_place (IsTo old.plan s) (λ r. IsSentBy old.plan r s) (readers old.plan) (packets_on out.packets) to (sent_by old.plan s is.place)));
-      requests = added ∙ ap (λ xss. pushed s xss asked) done.asks;
+      requests = added ∙ ap (λ xss. pushed s xss asked) done.put.asks;
       asking = λ h. subst (AreQueued (IsStageAsk old.plan)) (sym added)
           (queued_pushed (IsStageAsk old.plan) s (packets_on out.requests) asked h (λ r. all_hold (IsStageAsk old.plan r s) (λ a. is.place) (slice_index_or (packets_on out.requests) r [])));
     }

@@ -1,10 +1,10 @@
 -- The world before the first event is the empty one, and all is in its place.
-use Rattle.std.proofs.Common.{Bool, true, false, not, ◌≡◌, ◌⊎◌, inl, inr, ℕ, zero, suc, ◌+◌, ◌<◌, ◌≤◌, List, [], ◌∷◌, ◌++◌, map, length, length-append, drop, replicate, Some, None, slice_get, slice_index_or, take, refl, ap, sym, ◌∙◌, subst, arith}
+use Rattle.std.proofs.Common.{Bool, true, not, ◌≡◌, ◌⊎◌, inl, inr, ℕ, zero, suc, ◌+◌, ◌<◌, ◌≤◌, List, [], ◌∷◌, ◌++◌, map, length, length-append, drop, replicate, Option, Some, None, slice_get, slice_index_or, take, refl, ap, sym, ◌∙◌, subst, arith}
 use Rattle.std.specs.List.{range_with_len}
 use Rattle.std.proofs.lemmas.List.{length-map, map-append, map_more, replicate_more, take_all}
 use Rattle.std.proofs.lemmas.List.FromFn.{length-map-range_with_len}
 use Rattle.row.specs.Bags.{Each}
-use Rattle.plan.specs.Layouts.{Layout}
+use Rattle.plan.specs.Layouts.{Layout, SideLayout}
 use Rattle.plan.specs.Profile.{IsPlan}
 use Rattle.model.specs.Fronts.{LogView}
 use Rattle.model.specs.Histories.{Author}
@@ -20,21 +20,23 @@ use Rattle.packet.specs.declared.mode.Mode.TheVariants as mode
 use Rattle.protocol.specs.Bases.{Base}
 use Rattle.protocol.specs.Stages.{Stage}
 use Rattle.protocol.specs.Views.{View}
-use Rattle.protocol.specs.Worlds.{Node, start, first_base, first_stage, first_view, first_line, first_caller, no_queues}
+use Rattle.protocol.specs.Worlds.{Node, start, first_base, first_right, first_stage, first_view, first_line, first_caller, no_queues}
 use Rattle.protocol.specs.WorldSteps.{own_in}
 use Rattle.protocol.proofs.Lists.{each_at, each_map, each_of, map_get}
 use Rattle.protocol.proofs.Owns.{each_flat}
 use Rattle.protocol.proofs.Spots.{each_range}
-use Rattle.protocol.proofs.Start.{range_map_get}
 use Rattle.protocol.proofs.Within.{sources_small}
 use Rattle.base_domain.specs.Domains.{Domain as BaseDomain}
 use Rattle.schedule.specs.Codes.{reader_in}
 use Rattle.schedule.specs.Sessions.{Session}
-use Rattle.stage_domain.specs.Domains.{Domain as StageDomain}
+use Rattle.stage_domain.specs.Domains.{Domain as StageDomain, IsNew as IsNewStage}
 use Rattle.view_domain.specs.Domains.{Domain as ViewDomain, lines_of}
-use Rattle.machine.specs.Held.{Held, Are, AreQueued, IsPlaced, IsWhole, IsBaseOf, IsStageOf, IsViewOf, KnowsOwn, world_of, base_node, stage_node, view_node, sent_in}
-use Rattle.machine.specs.Started.{AreFirst, IsNewBase, first_log, first_logs, new_stage, new_stages, new_view, new_views, new_session, new_sessions}
+use Rattle.machine.specs.Held.{Held, Are, AreQueued, IsPlaced, IsWhole, IsBaseOf, IsStageOf, IsViewOf, KnowsOwn, world_of, base_node, runs, stage_node, view_node, sent_in}
+use Rattle.machine.specs.Started.{AreFirst, AreNewStages, IsNewBase, first_log, first_logs, new_view, new_views, new_session, new_sessions}
+use Rattle.std.specs.Option.{option_map}
+use Rattle.packet.specs.Keys.{Keys, no_keys}
 use Rattle.machine.proofs.Meeting.{there_at}
+use Rattle.stage_domain.proofs.Starts.{running_whole}
 use Rattle.machine.proofs.Queued.{nothing_queued}
 
 -- ---- lists that are made one by one
@@ -146,26 +148,40 @@ entries_first : (p : Layout) → entries_of (first_logs p) ≡ first_line p
 entries_first p = map_both (λ (l : LogView). l.entries) (first_log p) (λ b. []) (λ b. refl) (sources p)
 
 -- ---- stage shards
-abbrev stage_over : Layout → ℕ → Line → Node Stage
-stage_over p s line = record { is = record { plan = p; shard = s; line = line; right = None; pending = []; asked = None; marks = [] }; runs = true }
+abbrev stage_over : Layout → ℕ → Line → Bool → Node Stage
+stage_over p s line b = record { is = record { plan = p; shard = s; line = line; right = first_right true p.right; pending = []; asked = None; marks = [] }; runs = b }
 
-stage_is : (p : Layout) (s : ℕ) → stage_node (new_stage p s) ≡ first_stage false p s
-stage_is p s = ap (stage_over p s) (entries_first p)
+right_is : (side : Option SideLayout) → option_map (λ side. no_keys) side ≡ first_right true side
+right_is None = refl
+right_is (Some side) = refl
 
-stages_are : (p : Layout) → map stage_node (new_stages p) ≡ map (first_stage false p) (range_with_len 0 p.stages)
-stages_are p = map_both stage_node (new_stage p) (first_stage false p) (stage_is p) (range_with_len 0 p.stages)
+abbrev stage_with : Layout → ℕ → Line → Bool → Option Keys → Node Stage
+stage_with p s line b right = record { is = record { plan = p; shard = s; line = line; right = right; pending = []; asked = None; marks = [] }; runs = b }
+
+stage_is : (p : Layout) (s : ℕ) (d : StageDomain) → IsNewStage p s (first_logs p) d → stage_node d ≡ first_stage true p s
+stage_is p s d new =
+    ap (λ (x : Stage). record { is = x; runs = runs d.mode }) new.stage
+    ∙ (ap (stage_with p s (entries_of (first_logs p)) (runs d.mode)) (right_is p.right)
+    ∙ (ap (λ line. stage_over p s line (runs d.mode)) (entries_first p) ∙ ap (λ m. stage_over p s (first_line p) (runs m)) new.running))
+
+stages_are : (p : Layout) (stages : List StageDomain) → AreNewStages p stages → map stage_node stages ≡ map (first_stage true p) (range_with_len 0 p.stages)
+stages_are p stages are = are_images (λ s d. IsNewStage p s (first_logs p) d) stage_node (first_stage true p) p.stages stages are (stage_is p)
+
+stages_placed : (p : Layout) (stages : List StageDomain) → AreNewStages p stages → Are (IsStageOf p) p.stages stages
+stages_placed p stages are = record {
+  size = are.size;
+  each = λ s d at.
+      let new = are.each s d at in
+      record {
+        plan = ap (λ (x : Stage). x.plan) new.stage;
+        shard = ap (λ (x : Stage). x.shard) new.stage;
+        place = subst (λ n. s < n) are.size (is_there stages s d at);
+        whole = running_whole d.mode new.running;
+      };
+}
 
 not_broken : mode.Running ≡ mode.Broken → ⊥
 not_broken e = cc
-
-stages_placed : (p : Layout) → Are (IsStageOf p) p.stages (new_stages p)
-stages_placed p = record {
-  size = length-map-range_with_len (new_stage p) 0 p.stages;
-  each = λ s d at.
-      let r = range_map_get (new_stage p) 0 p.stages s d at in
-      let e : 0 + s ≡ s = omega (arith) in
-      subst (IsStageOf p s) (sym (r.1 ∙ ap (new_stage p) e)) (record { plan = refl; shard = refl; place = r.0; whole = not_broken });
-}
 
 -- ---- view shards
 abbrev view_over : Layout → Reader → List Line → Node View
@@ -201,12 +217,6 @@ views_placed p = record {
 }
 
 -- ---- what the calls that make them leave
-abbrev stage_from : Layout → ℕ → List LogView → StageDomain
-stage_from p s line = record { plan = p; shard = s; line = line; marks = []; mode = mode.Running }
-
-pub stage_made : (p : Layout) (s : ℕ) (line : List LogView) (d : StageDomain) → line ≡ first_logs p → d ≡ stage_from p s line → d ≡ new_stage p s
-stage_made p s line d same is = is ∙ ap (stage_from p s) same
-
 abbrev view_from : Layout → Reader → List (List LogView) → ViewDomain
 view_from p r cut = record {
   plan = p;
@@ -293,7 +303,7 @@ module _ {F : Type 0} (log : F → LogView) (authors : F → List Author) where
   pub record IsNew (p : Layout) (h : Held F) : Type 0 where
     pub plan : h.plan ≡ p
     pub bases : Are (IsNewBase log authors p) (base_count p) h.bases
-    pub stages : h.stages ≡ new_stages p
+    pub stages : AreNewStages p h.stages
     pub views : h.views ≡ new_views p
     pub to_stage : h.to_stage ≡ no_queues p.stages (length (sources p))
     pub to_view : h.to_view ≡ no_queues (length (readers p)) p.stages
@@ -301,11 +311,11 @@ module _ {F : Type 0} (log : F → LogView) (authors : F → List Author) where
     pub to_base : h.to_base ≡ no_queues (length (sources p)) p.stages
     pub sessions : h.sessions ≡ new_sessions p
 
-  abbrev made : Layout → List (BaseDomain F) → Held F
-  made p bases = record {
+  abbrev made : Layout → List (BaseDomain F) → List StageDomain → Held F
+  made p bases stages = record {
     plan = p;
     bases = bases;
-    stages = new_stages p;
+    stages = stages;
     views = new_views p;
     to_stage = no_queues p.stages (length (sources p));
     to_view = no_queues (length (readers p)) p.stages;
@@ -318,25 +328,25 @@ module _ {F : Type 0} (log : F → LogView) (authors : F → List Author) where
   held_of bases p stages views to_stage to_view from_view to_base sessions =
       record { plan = p; bases = bases; stages = stages; views = views; to_stage = to_stage; to_view = to_view; from_view = from_view; to_base = to_base; sessions = sessions }
 
-  is_made : (p : Layout) (h : Held F) → IsNew p h → h ≡ made p h.bases
-  is_made p h n = by h.plan h.stages h.views h.to_stage h.to_view h.from_view h.to_base h.sessions n.plan n.stages n.views n.to_stage n.to_view n.from_view n.to_base n.sessions
+  is_made : (p : Layout) (h : Held F) → IsNew p h → h ≡ made p h.bases h.stages
+  is_made p h n = by h.plan h.views h.to_stage h.to_view h.from_view h.to_base h.sessions n.plan n.views n.to_stage n.to_view n.from_view n.to_base n.sessions
     where
-      by : (q : Layout) (stages : List StageDomain) (views : List ViewDomain) (to_stage : List (List (List BasePacketView))) (to_view : List (List (List StagePacketView))) (from_view to_base : List (List (List Ask))) (sessions : List Session)
-          → q ≡ p → stages ≡ new_stages p → views ≡ new_views p → to_stage ≡ no_queues p.stages (length (sources p)) → to_view ≡ no_queues (length (readers p)) p.stages → from_view ≡ no_queues p.stages (length (readers p)) → to_base ≡ no_queues (length (sources p)) p.stages
-          → sessions ≡ new_sessions p → held_of h.bases q stages views to_stage to_view from_view to_base sessions ≡ made p h.bases
-      by q stages views to_stage to_view from_view to_base sessions a b c d e f g i = rw (a, b, c, d, e, f, g, i) refl
+      by : (q : Layout) (views : List ViewDomain) (to_stage : List (List (List BasePacketView))) (to_view : List (List (List StagePacketView))) (from_view to_base : List (List (List Ask))) (sessions : List Session)
+          → q ≡ p → views ≡ new_views p → to_stage ≡ no_queues p.stages (length (sources p)) → to_view ≡ no_queues (length (readers p)) p.stages → from_view ≡ no_queues p.stages (length (readers p)) → to_base ≡ no_queues (length (sources p)) p.stages
+          → sessions ≡ new_sessions p → held_of h.bases q h.stages views to_stage to_view from_view to_base sessions ≡ made p h.bases h.stages
+      by q views to_stage to_view from_view to_base sessions a b c d e f g = rw (a, b, c, d, e, f, g) refl
 
   bases_are : (p : Layout) (bases : List (BaseDomain F)) → Are (IsNewBase log authors p) (base_count p) bases → map (base_node log authors) bases ≡ map (first_base p) (range_with_len 0 (base_count p))
   bases_are p bases are = are_images (IsNewBase log authors p) (base_node log authors) (first_base p) (base_count p) bases are (base_is p)
 
-  made_world : (p : Layout) (bases : List (BaseDomain F)) → Are (IsNewBase log authors p) (base_count p) bases → world_of log authors (made p bases) ≡ start false p
-  made_world p bases are = rw (bases_are p bases are, stages_are p, views_are p, nothing_sent (length (readers p)) p.stages, callers_are p) refl
+  made_world : (p : Layout) (bases : List (BaseDomain F)) (stages : List StageDomain) → Are (IsNewBase log authors p) (base_count p) bases → AreNewStages p stages → world_of log authors (made p bases stages) ≡ start true p
+  made_world p bases stages are new = rw (bases_are p bases are, stages_are p stages new, views_are p, nothing_sent (length (readers p)) p.stages, callers_are p) refl
 
-  made_placed : (p : Layout) (bases : List (BaseDomain F)) → IsPlan p → Are (IsNewBase log authors p) (base_count p) bases → IsPlaced log authors (made p bases)
-  made_placed p bases good are = record {
+  made_placed : (p : Layout) (bases : List (BaseDomain F)) (stages : List StageDomain) → IsPlan p → Are (IsNewBase log authors p) (base_count p) bases → AreNewStages p stages → IsPlaced log authors (made p bases stages)
+  made_placed p bases stages good are new = record {
     good = good;
     bases = record { size = are.size; each = λ b d at. base_placed p b d (are.each b d at) };
-    stages = stages_placed p;
+    stages = stages_placed p stages new;
     views = views_placed p;
     to_stage = none_queued _ p.stages (length (sources p));
     to_view = none_queued _ (length (readers p)) p.stages;
@@ -345,13 +355,13 @@ module _ {F : Type 0} (log : F → LogView) (authors : F → List Author) where
     sessions = sessions_placed p (map (base_node log authors) bases) (bases_are p bases are);
   }
 
-  pub new_world : (p : Layout) (h : Held F) → IsNew p h → world_of log authors h ≡ start false p
-  new_world p h n = ap (world_of log authors) (is_made p h n) ∙ made_world p h.bases n.bases
+  pub new_world : (p : Layout) (h : Held F) → IsNew p h → world_of log authors h ≡ start true p
+  new_world p h n = ap (world_of log authors) (is_made p h n) ∙ made_world p h.bases h.stages n.bases n.stages
 
   pub new_whole : (p : Layout) (h : Held F) → IsPlan p → IsNew p h → IsWhole log authors h
   new_whole p h good n = record {
-    reached = record { by_key = false; plan = p; good = good; moves = []; after = new_world p h n };
-    placed = subst (IsPlaced log authors) (sym (is_made p h n)) (made_placed p h.bases good n.bases);
+    reached = record { by_key = true; plan = p; good = good; moves = []; after = new_world p h n };
+    placed = subst (IsPlaced log authors) (sym (is_made p h n)) (made_placed p h.bases h.stages good n.bases n.stages);
   }
 
   -- the right to append to the log of a source is there

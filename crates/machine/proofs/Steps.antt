@@ -10,7 +10,8 @@ use Rattle.protocol.specs.Worlds.{Node, World}
 use Rattle.protocol.specs.WorldSteps.{Did, says, stage_did, stage_takes, base_came, ask_came, is_up}
 use Rattle.protocol.specs.Events.{Reply, delivered, idle}
 use Rattle.protocol.proofs.Lists.{map_set, map_get, set_size, got}
-use Rattle.stage_domain.specs.Domains.{Domain as StageDomain, stage_of, IsFrom}
+use Rattle.stage_domain.specs.Domains.{Domain as StageDomain, stage_of}
+use Rattle.stage_steps.specs.Shards.{IsFrom}
 use Rattle.model.specs.Legal.{most_sessions}
 use Rattle.packet.specs.Readers.{readers}
 use Rattle.schedule.specs.Sessions.{Session}

@@ -19,7 +19,8 @@ use Rattle.view_domain.specs.Received.{IsDone}
 use Rattle.machine.specs.Held.{IsViewOf, IsAsk, AreQueued, runs}
 use Rattle.machine.specs.Turned.{IsViewTurn}
 use Rattle.machine.proofs.Queued.{queued_pushed}
-use Rattle.machine.proofs.StageTurns.{reader, running_whole}
+use Rattle.machine.proofs.StageTurns.{reader}
+use Rattle.stage_domain.proofs.Starts.{running_whole}
 
 abbrev node : View → Bool → Node View
 node x b = record { is = x; runs = b }

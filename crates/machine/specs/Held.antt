@@ -23,7 +23,8 @@ use Rattle.protocol.specs.WorldSteps.{Did, own_in}
 use Rattle.base_domain.specs.Received.{base_at}
 use Rattle.base_domain.specs.Domains.{Domain as BaseDomain}
 use Rattle.schedule.specs.Sessions.{Session}
-use Rattle.stage_domain.specs.Domains.{Domain as StageDomain, stage_of, IsFrom}
+use Rattle.stage_domain.specs.Domains.{Domain as StageDomain, stage_of}
+use Rattle.stage_steps.specs.Shards.{IsFrom}
 use Rattle.view_domain.specs.Domains.{Domain as ViewDomain}
 use Rattle.view_domain.specs.Domains as view_domain
 

@@ -1,6 +1,5 @@
 -- All domains and edges before the first event.
 use Rattle.std.specs.Prelude.{◌≡◌, ℕ, false, List, [], map, replicate}
-use Rattle.std.specs.List.{range_with_len}
 use Rattle.plan.specs.Layouts.{Layout}
 use Rattle.model.specs.Fronts.{LogView}
 use Rattle.model.specs.Histories.{Author}
@@ -11,7 +10,7 @@ use Rattle.packet.specs.declared.mode.Mode.TheVariants as mode
 use Rattle.protocol.specs.Worlds.{first_caller}
 use Rattle.base_domain.specs.Domains.{Domain as BaseDomain}
 use Rattle.schedule.specs.Sessions.{Session}
-use Rattle.stage_domain.specs.Domains.{Domain as StageDomain}
+use Rattle.stage_domain.specs.Domains.{Domain as StageDomain, IsNew as IsNewStage}
 use Rattle.view_domain.specs.Domains.{Domain as ViewDomain}
 use Rattle.machine.specs.Held.{Are}
 
@@ -23,13 +22,9 @@ first_log p b = record { plan = p; base = b; entries = [] }
 abbrev pub first_logs : Layout → List LogView
 first_logs p = map (first_log p) (sources p)
 
--- stage shard s, which knows nothing yet
-abbrev pub new_stage : Layout → ℕ → StageDomain
-new_stage p s = record { plan = p; shard = s; line = first_logs p; marks = []; mode = mode.Running }
-
--- all stage shards
-abbrev pub new_stages : Layout → List StageDomain
-new_stages p = map (new_stage p) (range_with_len 0 p.stages)
+-- all stage shards, which know nothing yet
+abbrev pub AreNewStages : Layout → List StageDomain → Type 0
+AreNewStages p stages = Are (λ s d. IsNewStage p s (first_logs p) d) p.stages stages
 
 -- a view shard, with no key filled
 abbrev pub new_view : Layout → Reader → ViewDomain

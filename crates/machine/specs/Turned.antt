@@ -15,7 +15,8 @@ use Rattle.protocol.specs.Edges.{pushed, source_place}
 use Rattle.protocol.specs.WorldSteps.{base_sent}
 use Rattle.base_domain.specs.Domains.{Domain as BaseDomain}
 use Rattle.base_domain.specs.Received.{IsFor, base_at}
-use Rattle.stage_domain.specs.Domains.{Domain as StageDomain, IsFrom, stage_of}
+use Rattle.stage_domain.specs.Domains.{Domain as StageDomain, stage_of}
+use Rattle.stage_steps.specs.Shards.{IsFrom}
 use Rattle.view_domain.specs.Domains.{Domain as ViewDomain}
 use Rattle.machine.specs.Held.{Held, IsBaseOf, IsStageOf, IsViewOf, AreQueued, IsSentBy, IsAsk, IsStageAsk, sent_in, base_node, stage_node, view_node}
 

@@ -15,7 +15,7 @@ use model::fronts::Fronts;
 use row::refused::Refused;
 use schedule::event::Reply;
 use schedule::wire::Wire;
-use stage_domain::message::ToStage;
+use stage_steps::message::ToStage;
 use std::alloc::Global;
 use view_domain::message::ToView;
 

@@ -16,7 +16,7 @@ use row::refused::Refused;
 use row::value::Value;
 use schedule::arguments::{read_target, stage_target};
 use schedule::event::Reply;
-use stage_domain::message::ToStage;
+use stage_steps::message::ToStage;
 use std::alloc::Global;
 use view_domain::message::ToView;
 

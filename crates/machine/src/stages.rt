@@ -2,7 +2,7 @@
 ghost use Rattle.std.specs.Prelude.{◌≡◌, ◌<◌, true, length, map, slice_get, Some, OnOk, IsTrue};
 ghost use Rattle.packet.specs.declared.mode.Mode.TheVariants.{Running};
 ghost use Rattle.protocol.specs.WorldSteps.{is_up};
-ghost use Rattle.stage_domain.specs.Codes.{message_of};
+ghost use Rattle.stage_steps.specs.Codes.{message_of};
 ghost use Rattle.stage_domain.specs.Domains.{Domain as StageState, Meets};
 ghost use Rattle.machine.specs.Held.{IsPlaced, stage_node};
 ghost use Rattle.machine.specs.Machines.{held};
@@ -13,8 +13,8 @@ use crate::turns::turn_stage;
 use model::fronts::Fronts;
 use packet::mode::Mode;
 use row::refused::Refused;
-use stage_domain::message::ToStage;
 use stage_domain::stage_domain::StageDomain;
+use stage_steps::message::ToStage;
 use std::alloc::Global;
 
 /// Whether there is the stage shard, and it runs.

@@ -1,10 +1,10 @@
 //! All domains of a plan before the first event.
-ghost use Rattle.std.specs.Prelude.{◌≡◌, ◌<◌, false, replicate, IfOk};
+ghost use Rattle.std.specs.Prelude.{◌≡◌, ◌<◌, true, replicate, IfOk};
 ghost use Rattle.model.specs.Places.{base_count};
 ghost use Rattle.protocol.specs.Worlds.{start};
 ghost use Rattle.machine.specs.Held.{Are, IsWhole, world_of};
 ghost use Rattle.machine.specs.Machines.{held};
-ghost use Rattle.machine.specs.Started.{AreFirst, IsFirst, IsNewBase, first_logs, new_sessions, new_stages, new_views};
+ghost use Rattle.machine.specs.Started.{AreFirst, AreNewStages, IsFirst, IsNewBase, first_logs, new_sessions, new_views};
 
 use crate::machine::Machine;
 use base_domain::base_domain::BaseDomain;
@@ -97,7 +97,7 @@ fn new_stages<'p, F: Fronts>(
     line: &Line<F>,
 ) -> Result<Vec<StageDomain<'p, F>>, AllocError>
     requires { line.now ≡ first_logs plan.now }
-    ensures { IfOk result (λ v. v.items ≡ new_stages plan.now) }
+    ensures { IfOk result (λ v. AreNewStages plan.now v.items) }
 {
     let mut stages = Vec::new(alloc);
     for shard in 0..plan.stages() {
@@ -144,7 +144,7 @@ pub fn new_machine<'p, F: Fronts>(
     rights: Vec<F::Right>,
 ) -> Result<Machine<'p, F>, AllocError>
     requires first { AreFirst F.log F.authors F.front plan.now rights.items }
-    ensures world { IfOk result (λ m. world_of F.log F.authors (held m) ≡ start false plan.now) }
+    ensures world { IfOk result (λ m. world_of F.log F.authors (held m) ≡ start true plan.now) }
     ensures whole { IfOk result (λ m. IsWhole F.log F.authors (held m)) }
 {
     plan.keeps_profile();

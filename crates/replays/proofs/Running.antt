@@ -1,5 +1,5 @@
 -- What a schedule that was run is.
-use Rattle.std.proofs.Common.{◌≡◌, ℕ, false, List, Option, Result, Ok, Err, OnOk}
+use Rattle.std.proofs.Common.{◌≡◌, ℕ, true, List, Option, Result, Ok, Err, OnOk}
 use Rattle.std.specs.Io.KnownBytes.{Appends}
 use Rattle.plan.specs.Layouts.{Layout}
 use Rattle.plan.specs.Profile.{IsPlan}
@@ -22,5 +22,5 @@ run_told p text lines events old new (Ok u) plan is are wrote =
       schedule = schedule;
       only = λ others other. schedule_once p text others events other schedule;
       written = wrote;
-      legal = every_schedule false p plan events;
+      legal = every_schedule true p plan events;
     }

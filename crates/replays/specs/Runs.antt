@@ -1,5 +1,5 @@
 -- What is printed of a schedule.
-use Rattle.std.specs.Prelude.{◌≡◌, ℕ, false, List, Option}
+use Rattle.std.specs.Prelude.{◌≡◌, ℕ, true, List, Option}
 use Rattle.std.specs.Io.KnownBytes.{Appends}
 use Rattle.plan.specs.Layouts.{Layout}
 use Rattle.protocol.specs.Events.{Event, Reply}
@@ -11,7 +11,7 @@ use Rattle.schedule_lines.specs.Replies.{printed_replies}
 
 -- the protocol's replies to the events, from the empty world of the plan on
 abbrev pub run : Layout → List Event → List Reply
-run p events = replies (start false p) events
+run p events = replies (start true p) events
 
 -- as they are printed
 abbrev pub printed_run : Layout → List Event → List ℕ

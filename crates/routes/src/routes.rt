@@ -23,7 +23,7 @@ use row::refused::Refused;
 use row::value::Value;
 use schedule::readers;
 use schedule::wire::Spot;
-use stage_domain::message::ToStage;
+use stage_steps::message::ToStage;
 use std::alloc::{AllocError, Global};
 use std::marker::Model;
 use std::sync::Wait;

@@ -1,12 +1,1 @@
-pub mod Beside
-pub mod Truths
-pub mod Lines
-pub mod Readers
-pub mod FullSteps
-pub mod Moved
-pub mod Entered
-pub mod Sents
 pub mod Starts
-pub mod Dones
-pub mod Places
-pub mod Answered

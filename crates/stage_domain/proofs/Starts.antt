@@ -1,79 +1,24 @@
--- A domain with no rows, and where a packet starts.
-use Rattle.std.proofs.Common.{◌≡◌, ℕ, zero, suc, ◌<◌, ◌≤◌, List, [], ◌∷◌, length, take, drop, Option, Some, None, get_or, slice_get, IsTrue, refl, ap, sym, ◌∙◌, arith}
+-- Where a packet starts.
+use Rattle.std.proofs.Common.{◌≡◌, ◌≢◌, ℕ, zero, suc, ◌≤◌, List, [], ◌∷◌, length, take, Some, get_or, slice_get, IsTrue, ap, sym, ◌∙◌, arith}
 use Rattle.std.specs.Prelude.{nat_eq}
 use Rattle.std.proofs.lemmas.Bool.Decides.{nat_tests}
 use mathlib.Core.List.{IsPrefix}
-use Rattle.row.specs.Cells.{Cells, row_cmp}
-use Rattle.row.specs.Bags.{Each, IsAlike}
-use Rattle.plan.specs.Layouts.{SideLayout, Layout}
+use Rattle.plan.specs.Layouts.{Layout}
 use Rattle.model.specs.Fronts.{LogView, Agree}
 use Rattle.model.specs.Logs.{Change}
-use Rattle.model.specs.Places.{sources, side_count}
-use Rattle.model.specs.Queries.{Line, side_rows, left, right_rows, right}
 use Rattle.model.proofs.Prefixes.{prefix_length}
 use Rattle.packet.specs.Codes.{EndsAt}
-use Rattle.packet.specs.Lines.{AreOf, IsOf, entries_of, no_log}
-use Rattle.packet.specs.Marks.{MarksView}
+use Rattle.packet.specs.Lines.{entries_of, no_log}
 use Rattle.packet.specs.Messages.{BasePacketView}
-use Rattle.packet.specs.Truth.{IsFrontOf, Pointwise}
+use Rattle.packet.specs.declared.mode.Mode.{Mode}
 use Rattle.packet.specs.declared.mode.Mode.TheVariants as mode
-use Rattle.stage_rows.specs.Held.{Held, AreFound}
-use Rattle.stage_domain.specs.Domains.{HoldsTruth, log_of}
-use Rattle.stage_domain.proofs.Entered.{same_length}
-use Rattle.stage_domain.proofs.Lines.{prefix_taken}
+use Rattle.stage_domain.specs.Domains.{log_of}
+use Rattle.stage_steps.proofs.Lines.{prefix_taken}
 
-empty_front : (p : Layout) (b : ℕ) (es : List Change) → es ≡ [] → IsFrontOf p b es
-empty_front p b es e = rw e (record { fitting = tt; room = omega arith })
+-- what runs is not broken
+pub running_whole : (m : Mode) → m ≡ mode.Running → m ≢ mode.Broken
+running_whole m is e = let no : mode.Running ≡ mode.Broken = sym is ∙ e in cc
 
-empty_line : (p : Layout) (bs : List ℕ) (line : List LogView) → Pointwise (IsOf p) bs line → Each (λ (l : LogView). l.entries ≡ []) line → Pointwise (IsFrontOf p) bs (entries_of line)
-empty_line p [] [] h e = tt
-empty_line p [] (l ∷ line) h e = absurd h
-empty_line p (b ∷ bs) [] h e = absurd h
-empty_line p (b ∷ bs) (l ∷ line) h e = (empty_front p b l.entries e.0, empty_line p bs line h.1 e.1)
-
-each_entries : (line : List LogView) → Each (λ (l : LogView). l.entries ≡ []) line → Each (λ (es : List Change). es ≡ []) (entries_of line)
-each_entries [] h = tt
-each_entries (l ∷ line) h = (h.0, each_entries line h.1)
-
-each_take : {X : Type 0} (P : X → Type 0) (n : ℕ) (xs : List X) → Each P xs → Each P (take n xs)
-each_take P zero xs h = tt
-each_take P (suc n) [] h = tt
-each_take P (suc n) (x ∷ xs) h = (h.0, each_take P n xs h.1)
-
-each_drop : {X : Type 0} (P : X → Type 0) (n : ℕ) (xs : List X) → Each P xs → Each P (drop n xs)
-each_drop P zero xs h = h
-each_drop P (suc n) [] h = tt
-each_drop P (suc n) (x ∷ xs) h = each_drop P n xs h.1
-
-no_rows : (p : Layout) (s : ℕ) (side : SideLayout) (fs : Line) → Each (λ (es : List Change). es ≡ []) fs → side_rows p s side fs ≡ []
-no_rows p s side [] h = refl
-no_rows p s side (f ∷ fs) h = rw (h.0, no_rows p s side fs h.1) refl
-
-no_right : (p : Layout) (s : ℕ) (side : Option SideLayout) (fs : Line) → Each (λ (es : List Change). es ≡ []) fs → right_rows p s side fs ≡ []
-no_right p s None fs h = refl
-no_right p s (Some side) fs h = no_rows p s side fs h
-
-none_alike : (xs ys : List Cells) → xs ≡ [] → ys ≡ [] → IsAlike row_cmp xs ys
-none_alike xs ys e f = rw (e, f) (record { each = λ z. refl })
-
-pub starts : (p : Layout) (s n : ℕ) (line : List LogView) (rows : Held) (marks : MarksView) → s < p.stages → AreOf p line → Each (λ (l : LogView). l.entries ≡ []) line → rows.plan ≡ p → AreFound rows → rows.lefts ≡ [] → rows.rights ≡ [] → n ≡ length line → marks ≡ record { senders = n; waiting = [] }
-    → HoldsTruth p s line rows marks mode.Running
-starts p s n line rows marks lt of empty plan found lefts rights count none =
-    let es = each_entries line empty in
-    record {
-      shard = lt;
-      of = of;
-      fronts = empty_line p (sources p) line of empty;
-      senders = ap (λ (m : MarksView). m.senders) none ∙ (count ∙ sym (same_length (IsOf p) (sources p) line of));
-      rows = λ running. record {
-        plan = plan;
-        found = found;
-        lefts = none_alike rows.lefts (left p s (entries_of line)) lefts (no_rows p s p.left (take (side_count p p.left) (entries_of line)) (each_take (λ (es : List Change). es ≡ []) (side_count p p.left) (entries_of line) es));
-        rights = none_alike rows.rights (right p s (entries_of line)) rights (no_right p s p.right (drop (side_count p p.left) (entries_of line)) (each_drop (λ (es : List Change). es ≡ []) (side_count p p.left) (entries_of line) es));
-      };
-    }
-
--- ---- packets
 pub log_is : (k : BasePacketView) (l : LogView) → EndsAt k l → l ≡ log_of k
 log_is k l e =
     ap (λ (p : Layout). record { plan = p; base = l.base; entries = l.entries }) e.plan

@@ -1,5 +1,1 @@
-pub mod Told
-pub mod Outboxes
 pub mod Domains
-pub mod Sides
-pub mod Codes

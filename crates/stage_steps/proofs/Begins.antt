@@ -76,7 +76,7 @@ none_at p j = step (is_left p j)
     step true = refl
     step false = refl
 
-as_many : {A B X : Type 0} (as_ : List A) (bs : List B) → length as_ ≡ length bs → none_of {X = X} as_ ≡ none_of bs
+pub as_many : {A B X : Type 0} (as_ : List A) (bs : List B) → length as_ ≡ length bs → none_of {X = X} as_ ≡ none_of bs
 as_many [] [] e = refl
 as_many [] (b ∷ bs) e = cc
 as_many (a ∷ as_) [] e = cc

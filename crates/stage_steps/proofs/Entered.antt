@@ -41,7 +41,7 @@ use Rattle.stage_steps.proofs.Untold.{kept_same, left_spared, right_spared}
 turns_alike : (xs ys vs ws : List Cells) (records : List Record) → IsAlike row_cmp xs ys → IsAlike row_cmp vs ws → Turns xs records vs → Turns ys records ws
 turns_alike xs ys vs ws records h k t = record { each = λ z. let a = h.each z in let b = k.each z in let c = t.each z in omega (arith, a, b, c) }
 
-like : (xs : List Cells) → IsAlike row_cmp xs xs
+pub like : (xs : List Cells) → IsAlike row_cmp xs xs
 like xs = record { each = λ z. refl }
 
 alike_filter : (q : Cells → Bool) (xs ys : List Cells) → IsAlike row_cmp xs ys → IsAlike row_cmp (filter q xs) (filter q ys)
@@ -83,7 +83,7 @@ module _ (p : Layout) (s : ℕ) (i : ℕ) (k : Datum) where
 over_is : (p : Layout) (o : Option SideLayout) (h : Held) → h.plan ≡ p → p.right ≡ o → output_over h ≡ output p.left o p.aggregate h.lefts h.right.rows
 over_is p o h plan there = ap (λ (q : Layout). out q h.lefts h.right.rows) plan ∙ ap (λ o. output p.left o p.aggregate h.lefts h.right.rows) there
 
-alone : (left : SideLayout) (a : Option Aggregate) (ls rs rs' : List Cells) → output left None a ls rs ≡ output left None a ls rs'
+pub alone : (left : SideLayout) (a : Option Aggregate) (ls rs rs' : List Cells) → output left None a ls rs ≡ output left None a ls rs'
 alone left None ls rs rs' = refl
 alone left (Some a) ls rs rs' = refl
 

@@ -9,7 +9,7 @@ use Rattle.row.specs.Cells.{Cells, Datum, datum_of, has, has_shard, row_cmp}
 use Rattle.row.specs.CellOrder.{row_total, row_same}
 use Rattle.row.specs.declared.value.Value.{Value}
 use Rattle.row.proofs.Alike.{sorted_alike, filter_alike}
-use Rattle.row.proofs.BagLemmas.{Each-inserted, times-sorted}
+use Rattle.row.proofs.BagLemmas.{times-sorted}
 use Rattle.plan.specs.Facts.{Facts}
 use Rattle.plan.specs.Kinds.{is_row}
 use Rattle.plan.specs.Layouts.{Layout, SideLayout, table_at}
@@ -37,11 +37,9 @@ use Rattle.stage_steps.proofs.Fronts.{all_of, drop_get, front_at, right_is, righ
 use Rattle.stage_steps.proofs.LeftRows.{each_of}
 use Rattle.stage_steps.proofs.Puts.{after, put_quiet}
 use Rattle.stage_steps.proofs.Wholes.{some_after}
+use Rattle.stage_steps.proofs.LeftRows.{each_sorted}
 
 -- ---- the rows of a piece
-each_sorted : (P : Cells → Type 0) (xs : List Cells) → Each P xs → Each P (sorted row_cmp xs)
-each_sorted P [] h = tt
-each_sorted P (x ∷ xs) h = Each-inserted row_cmp P x (sorted row_cmp xs) h.0 (each_sorted P xs h.1)
 
 each_kept : (q : Cells → Bool) (xs : List Cells) → Each (λ r. q r ≡ true) (filter q xs)
 each_kept q [] = tt

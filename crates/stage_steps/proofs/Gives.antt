@@ -1,5 +1,5 @@
 -- The answer to a request, put out behind the rest.
-use Rattle.std.proofs.Common.{◌≡◌, ℕ, zero, suc, ◌+◌, ◌<◌, ◌==◌, Bool, true, false, cond, List, [], ◌∷◌, ◌++◌, map, length, slice_index_or, slice_set, Option, Some, None, refl, ap, sym, ◌∙◌, subst, arith}
+use Rattle.std.proofs.Common.{◌≡◌, ℕ, zero, suc, ◌+◌, ◌<◌, ◌==◌, Bool, true, false, cond, List, [], ◌∷◌, ◌++◌, map, length, slice_index_or, slice_set, Option, refl, ap, sym, ◌∙◌, subst, arith}
 use Rattle.std.specs.List.{list_all, range_with_len}
 use Rattle.std.proofs.lemmas.Bool.{eqb-true}
 use Rattle.std.proofs.lemmas.Bool.Decides.{nat_tests}
@@ -29,6 +29,8 @@ use Rattle.stage_steps.specs.Told.{answer_of}
 use Rattle.stage_steps.proofs.Appends.{append_nothing}
 use Rattle.stage_steps.proofs.Goes.{for_none}
 use Rattle.stage_steps.proofs.Puts.{after, no_asks, put_after, put_quiet}
+use Rattle.protocol.proofs.Spots.{each_append}
+use Rattle.stage_steps.proofs.Untold.{knows_is}
 
 module _ (p : Layout) (s : ℕ) (line : Line) (a : Ask) where
   abbrev pub answers : Reader → List StagePacketView
@@ -103,9 +105,6 @@ module _ (x : Shard) (a : Ask) (d : Done) (out new : OutboxView) (put : IsPut d 
       (ap packets_on same ∙ (sym (no_asks x.plan out edges) ∙ ap (append_each (packets_on out.requests)) (sym (ap (λ (e : Done). e.requests) is_given))))
 
 -- ---- whether it is answered
-knows_is : (keys : Option Keys) (k : Datum) → is_known k keys ≡ knows keys k
-knows_is None k = refl
-knows_is (Some keys) k = refl
 
 pub all_known : (here : Datum → Bool) (keys : Option Keys) (ks : List Value) → ((k : Datum) → here k ≡ is_known k keys) → list_all (λ k. here (datum_of k)) ks ≡ list_all (knows keys) (map datum_of ks)
 all_known here keys [] known = refl
@@ -122,10 +121,6 @@ put_later x a pending d out needed put edges known more =
     let e : answered (stage_of x) a needed ≡ quiet (record (stage_of x) { pending = x.pending ++ a ∷ [] }) = ap (λ b. cond b (given (stage_of x) a) (quiet (record (stage_of x) { pending = x.pending ++ a ∷ [] }))) known in
     put_quiet d (answered d.stage a needed) out x (record x { pending = pending }) put edges refl refl
     (ap (λ (s : Stage). answered s a needed) (sym put.stage) ∙ (e ∙ ap (λ p. quiet (record (stage_of x) { pending = p })) (sym more)))
-
-each_append : {X : Type 0} (P : X → Type 0) (xs ys : List X) → Each P xs → Each P ys → Each P (xs ++ ys)
-each_append P [] ys h k = k
-each_append P (x ∷ xs) ys h k = (h.0, each_append P xs ys h.1 k)
 
 -- one request more waits
 pub later_whole : (x : Shard) (a : Ask) (pending : List Ask) → IsShard x → view_of a.tag < length x.plan.views → pending ≡ x.pending ++ a ∷ [] → IsShard (record x { pending = pending })

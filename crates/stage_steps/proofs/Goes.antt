@@ -1,5 +1,5 @@
 -- A stage key goes: it becomes a hole, and each view shard is told of its keys.
-use Rattle.std.proofs.Common.{◌≡◌, ℕ, zero, suc, ◌+◌, ◌<◌, Bool, true, false, cond, ◌||◌, List, [], ◌∷◌, ◌++◌, map, filter, flat_map, length, Option, Some, None, slice_get, slice_index_or, refl, ap, sym, ◌∙◌, arith}
+use Rattle.std.proofs.Common.{◌≡◌, ℕ, zero, suc, ◌+◌, ◌<◌, Bool, true, false, cond, ◌||◌, List, [], ◌∷◌, map, flat_map, length, Option, Some, None, slice_get, refl, ap, sym, ◌∙◌, arith}
 use Rattle.std.specs.List.{list_any, range_with_len}
 use Rattle.std.specs.Option.{option_map}
 use Rattle.std.specs.Set.{remove_key}
@@ -8,7 +8,7 @@ use Rattle.row.specs.Cells.{Datum, same}
 use Rattle.row.proofs.Shards.{same_is}
 use Rattle.ops.specs.SideRows.{Rows, is_here, is_of as is_one}
 use Rattle.partial.specs.States.{Filled, Hole, Waiting, evicted, is_filled}
-use Rattle.plan.specs.Layouts.{Layout, ViewLayout, no_view, view_at}
+use Rattle.plan.specs.Layouts.{Layout, view_at}
 use Rattle.model.specs.Places.{sources}
 use Rattle.model.specs.Queries.{Line}
 use Rattle.packet.specs.Keys.{Keys, Stand, open_at, with_stand}
@@ -17,7 +17,7 @@ use Rattle.packet.specs.Lines.{entries_of}
 use Rattle.packet.specs.Messages.{Sent, none_of}
 use Rattle.packet.specs.Named.{for_each, named}
 use Rattle.packet.specs.Outboxes.{packets_on}
-use Rattle.packet.specs.Readers.{Reader, is_of, readers, readers_of}
+use Rattle.packet.specs.Readers.{Reader, readers, readers_of}
 use Rattle.packet.specs.Truth.{Pointwise, sent_of}
 use Rattle.protocol.specs.Stages.{Done, Stage, keys_for, of_stage_key}
 use Rattle.protocol.specs.StageSteps.{append_each, first_goes, goes, notice, oldest_goes, order_taken, quiet}
@@ -27,18 +27,16 @@ use Rattle.stage_sides.specs.Sides.{first_filled, is_closed, is_known}
 use Rattle.stage_steps.specs.Outboxes.{AreEdges, OutboxView}
 use Rattle.stage_steps.specs.Shards.{IsPut, IsTo, Shard, gone_names, gone_to, stage_of}
 use Rattle.stage_steps.specs.Told.{evicts_at, is_told, perhaps, told, told_if}
-use Rattle.stage_steps.proofs.Names.{named_by}
 use Rattle.stage_steps.proofs.Puts.{after, no_asks, put_after, put_quiet}
 use Rattle.stage_steps.proofs.Wholes.{keys_by}
+use Rattle.protocol.proofs.Spots.{each_append}
+use Rattle.stage_steps.proofs.Untold.{evicts_are}
 
 pub for_none : {X : Type 0} (f : Option (List Datum) → Reader → X) (rs : List Reader) → for_each f None rs ≡ map (f None) rs
 for_none f [] = refl
 for_none f (r ∷ rs) = ap (λ l. f None r ∷ l) (for_none f rs)
 
 -- ---- readers are of views that there are
-each_append : {X : Type 0} (P : X → Type 0) (xs ys : List X) → Each P xs → Each P ys → Each P (xs ++ ys)
-each_append P [] ys h k = k
-each_append P (x ∷ xs) ys h k = (h.0, each_append P xs ys h.1 k)
 
 of_view : (P : Reader → Type 0) (i : ℕ) (js : List ℕ) → ((j : ℕ) → P (record { view = i; shard = j })) → Each P (map (λ j. record { view = i; shard = j }) js)
 of_view P i [] h = tt
@@ -54,13 +52,6 @@ readers_below : (p : Layout) → Each (λ (r : Reader). r.view < length p.views)
 readers_below p = views_below p (length p.views) 0 (length p.views) (omega arith)
 
 -- ---- what is told as it goes
-at_view : (x : Shard) (k : Datum) (vs : List ViewLayout) (i : ℕ) → i < length vs → slice_index_or (map (named_by x k) vs) i [] ≡ named_by x k (slice_index_or vs i no_view)
-at_view x k [] i lt = absurd (omega (arith, lt))
-at_view x k (v ∷ vs) zero lt = refl
-at_view x k (v ∷ vs) (suc i) lt = at_view x k vs i (omega (arith, lt))
-
-evicts_are : (x : Shard) (k : Datum) (r : Reader) → r.view < length x.plan.views → evicts_at x.plan (gone_names x k) r ≡ keys_for x.plan (of_stage_key (stage_of x) k) r
-evicts_are x k r lt = ap (filter (λ d. is_of x.plan r.view d r)) (at_view x k x.plan.views r.view lt)
 
 sent_by : (p : Layout) (s : ℕ) (line : Line) (names : List (List Datum)) (r : Reader) (ks : List Datum) → evicts_at p names r ≡ ks → map sent_of (perhaps (told_if false p s line line [] names None r)) ≡ notice line ks
 sent_by p s line names r ks e = step (evicts_at p names r) ∙ ap (notice line) e
@@ -71,7 +62,7 @@ sent_by p s line names r ks e = step (evicts_at p names r) ∙ ap (notice line) 
 
 sent_each : (x : Shard) (k : Datum) (rs : List Reader) → Each (λ (r : Reader). r.view < length x.plan.views) rs → map (map sent_of) (map (gone_to x k) rs) ≡ map (λ r. notice (entries_of x.line) (keys_for x.plan (of_stage_key (stage_of x) k) r)) rs
 sent_each x k [] h = refl
-sent_each x k (r ∷ rs) h = λ i. sent_by x.plan x.shard (entries_of x.line) (gone_names x k) r (keys_for x.plan (of_stage_key (stage_of x) k) r) (evicts_are x k r h.0) i ∷ sent_each x k rs h.1 i
+sent_each x k (r ∷ rs) h = λ i. sent_by x.plan x.shard (entries_of x.line) (gone_names x k) r (keys_for x.plan (of_stage_key (stage_of x) k) r) (evicts_are x.plan (of_stage_key (stage_of x) k) r h.0) i ∷ sent_each x k rs h.1 i
 
 pub gone_sent : (x : Shard) (k : Datum) → map (map sent_of) (map (gone_to x k) (readers x.plan)) ≡ map (λ r. notice (entries_of x.line) (keys_for x.plan (of_stage_key (stage_of x) k) r)) (readers x.plan)
 gone_sent x k = sent_each x k (readers x.plan) (readers_below x.plan)

@@ -2,9 +2,7 @@
 use Rattle.std.proofs.Common.{◌≡◌, ℕ, suc, Bool, true, false, cond, List, [], ◌∷◌, ◌++◌, map, length, slice_set, Option, Some, None, refl, ap, sym, ◌∙◌, subst, arith}
 use Rattle.std.specs.Option.{is_some}
 use Rattle.std.proofs.lemmas.List.{length-map}
-use Rattle.row.specs.Bags.{Each}
 use Rattle.row.specs.Cells.{Datum}
-use Rattle.plan.specs.Layouts.{Layout}
 use Rattle.model.specs.Places.{sources}
 use Rattle.partial.specs.States.{is_filled}
 use Rattle.packet.specs.Keys.{Keys, open_at}
@@ -13,35 +11,24 @@ use Rattle.packet.specs.Messages.{Ask, BasePacketView, Mark, Piece, Sent, none_o
 use Rattle.packet.specs.Named.{for_each, named}
 use Rattle.packet.specs.Outboxes.{packets_on}
 use Rattle.packet.specs.Readers.{Reader, readers}
-use Rattle.packet.specs.Truth.{Pointwise, sent_of}
+use Rattle.packet.specs.Truth.{sent_of}
 use Rattle.protocol.specs.Stages.{Done, Stage, ToStage, keys_for, of_stage_key, order, packet, request}
 use Rattle.protocol.specs.StageSteps.{append_each, goes, moved, next, notice, order_taken, packet_taken, piece_taken, put, quiet, takes, unknown, with_marker}
 use Rattle.stage_steps.specs.Outboxes.{AreEdges, IsSilent, OutboxView}
-use Rattle.stage_steps.specs.Shards.{IsPut, IsTo, Shard, stage_of}
+use Rattle.stage_steps.specs.Shards.{IsPut, Shard, stage_of}
 use Rattle.stage_steps.proofs.Puts.{after, put_quiet}
+use Rattle.stage_steps.proofs.Begins.{as_many}
+use Rattle.stage_steps.proofs.Puts.{none_sent, none_to}
 
 -- ---- a silent outbox
-nothing : {A B X : Type 0} (as_ : List A) (bs : List B) → length as_ ≡ length bs → none_of {X = X} as_ ≡ none_of bs
-nothing [] [] e = refl
-nothing [] (b ∷ bs) e = cc
-nothing (a ∷ as_) [] e = cc
-nothing (a ∷ as_) (b ∷ bs) e = ap (λ l. [] ∷ l) (nothing as_ bs (omega (arith, e)))
-
-none_sent : (rs : List Reader) → map (map sent_of) (none_of rs) ≡ none_of rs
-none_sent [] = refl
-none_sent (r ∷ rs) = ap (λ l. [] ∷ l) (none_sent rs)
-
-none_to : (p : Layout) (s : ℕ) (rs : List Reader) → Pointwise (λ r xs. Each (IsTo p s r) xs) rs (none_of rs)
-none_to p s [] = tt
-none_to p s (r ∷ rs) = (tt, none_to p s rs)
 
 pub put_start : (x : Shard) (out : OutboxView) → IsSilent out → AreEdges x.plan out → IsPut (quiet (stage_of x)) out x
 put_start x out silent edges =
-    let packets : packets_on out.packets ≡ none_of (readers x.plan) = silent.packets ∙ nothing out.packets (readers x.plan) edges.readers in
+    let packets : packets_on out.packets ≡ none_of (readers x.plan) = silent.packets ∙ as_many out.packets (readers x.plan) edges.readers in
     record {
       stage = refl;
       sent = ap (map (map sent_of)) packets ∙ none_sent (readers x.plan);
-      asks = silent.requests ∙ nothing out.requests (sources x.plan) edges.sources;
+      asks = silent.requests ∙ as_many out.requests (sources x.plan) edges.sources;
       to = rw packets (none_to x.plan x.shard (readers x.plan));
     }
 

@@ -52,7 +52,7 @@ module _ (p : Layout) (s : ℕ) (line : Line) (facts : Facts p) (is : IsLine p l
       (λ front h. all_filter (is_row t.columns) (pass p.left.conditions) (stage_rows p s p.left front) (all_filter (is_row t.columns) (has_shard p.left.key p.stages s) (rows_of t.key front) (rows_fit t t.key front h)))
       (take (side_count p p.left) line) (all_got (λ (front : List Change). list_all (fits t) front) (take (side_count p p.left) line) front_fits))
 
-each_sorted : (P : Cells → Type 0) (xs : List Cells) → Each P xs → Each P (sorted row_cmp xs)
+pub each_sorted : (P : Cells → Type 0) (xs : List Cells) → Each P xs → Each P (sorted row_cmp xs)
 each_sorted P [] h = tt
 each_sorted P (x ∷ xs) h = Each-inserted row_cmp P x (sorted row_cmp xs) h.0 (each_sorted P xs h.1)
 

@@ -36,6 +36,7 @@ use Rattle.stage_steps.proofs.Here.{can_name, row_can, rows_named_at}
 use Rattle.stage_steps.specs.Told.{answer_of}
 use Rattle.stage_steps.proofs.Lines.{shorter_is}
 use Rattle.stage_steps.proofs.LeftRows.{rows_wide, sorted_are_rows}
+use Rattle.stage_steps.proofs.Entered.{alone, like}
 
 -- ---- lists
 each_mapped : (f : Datum → Bool) (g : Cells → Datum) (ls : List Cells) → list_all f (map g ls) ≡ true → Each (λ l. f (g l) ≡ true) ls
@@ -53,9 +54,6 @@ each_filtered P q (l ∷ ls) h = step (q l) (each_filtered P q ls h.1)
 each_both : (P Q R : Cells → Type 0) (ls : List Cells) → ((l : Cells) → P l → Q l → R l) → Each P ls → Each Q ls → Each R ls
 each_both P Q R [] f h k = tt
 each_both P Q R (l ∷ ls) f h k = (f l h.0 k.0, each_both P Q R ls f h.1 k.1)
-
-like : (xs : List Cells) → IsAlike row_cmp xs xs
-like xs = record { each = λ z. refl }
 
 then_alike : (xs ys zs : List Cells) → IsAlike row_cmp xs ys → IsAlike row_cmp ys zs → IsAlike row_cmp xs zs
 then_alike xs ys zs h k = record { each = λ z. h.each z ∙ k.each z }
@@ -83,10 +81,6 @@ module _ (left side : SideLayout) (here rights : List Cells) where
 of_key : (left side : SideLayout) (c : ℕ) (k : Datum) (a : Option Aggregate) (ls rights : List Cells) → Each (λ l. c < length l) ls → filter (has c k) (output left (Some side) a ls rights) ≡ output left (Some side) a (filter (has c k) ls) rights
 of_key left side c k None ls rights wide = joins left side c k ls rights wide
 of_key left side c k (Some a) ls rights wide = totals left side a c k ls rights wide
-
-alone : (left : SideLayout) (a : Option Aggregate) (ls rs ts : List Cells) → output left None a ls rs ≡ output left None a ls ts
-alone left None ls rs ts = refl
-alone left (Some a) ls rs ts = refl
 
 knows_here : (keys : Option Keys) (k : Datum) → knows keys k ≡ true → is_known k keys ≡ true
 knows_here None k h = h

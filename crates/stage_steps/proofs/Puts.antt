@@ -1,5 +1,5 @@
 -- What is put out, one part of a step after the other.
-use Rattle.std.proofs.Common.{◌≡◌, ℕ, List, [], ◌∷◌, ◌++◌, map, refl, ap, sym, ◌∙◌, arith}
+use Rattle.std.proofs.Common.{◌≡◌, ℕ, List, [], ◌∷◌, map, refl, ap, sym, ◌∙◌, arith}
 use Rattle.std.proofs.lemmas.List.{length-map, map-append}
 use Rattle.row.specs.Bags.{Each}
 use Rattle.plan.specs.Layouts.{Layout}
@@ -13,15 +13,12 @@ use Rattle.protocol.specs.StageSteps.{append_each, quiet}
 use Rattle.stage_steps.specs.Outboxes.{AreEdges, OutboxView}
 use Rattle.stage_steps.specs.Shards.{IsPut, IsTo, Shard, stage_of}
 use Rattle.stage_steps.proofs.Appends.{append_nothing}
+use Rattle.protocol.proofs.Spots.{each_append}
 
 map_append_each : {X Y : Type 0} (f : X → Y) (xss yss : List (List X)) → map (map f) (append_each xss yss) ≡ append_each (map (map f) xss) (map (map f) yss)
 map_append_each f [] yss = refl
 map_append_each f (xs ∷ xss) [] = refl
 map_append_each f (xs ∷ xss) (ys ∷ yss) = λ i. map-append f xs ys i ∷ map_append_each f xss yss i
-
-each_append : {X : Type 0} (P : X → Type 0) (xs ys : List X) → Each P xs → Each P ys → Each P (xs ++ ys)
-each_append P [] ys h k = k
-each_append P (x ∷ xs) ys h k = (h.0, each_append P xs ys h.1 k)
 
 pointwise_append : {X Y : Type 0} (P : X → Y → Type 0) (rs : List X) (xss yss : List (List Y)) → Pointwise (λ r xs. Each (P r) xs) rs xss → Pointwise (λ r xs. Each (P r) xs) rs yss → Pointwise (λ r xs. Each (P r) xs) rs (append_each xss yss)
 pointwise_append P [] [] [] h k = tt
@@ -53,11 +50,11 @@ module _ (p : Layout) (out : OutboxView) (edges : AreEdges p out) where
   pub no_packets : append_each (packets_on out.packets) (none_of (readers p)) ≡ packets_on out.packets
   no_packets = append_nothing (packets_on out.packets) (readers p) (omega (arith, edges.readers, length-map out.packets (λ (e : EdgeView StagePacketView). e.packets)))
 
-none_sent : (rs : List Reader) → map (map sent_of) (none_of rs) ≡ none_of rs
+pub none_sent : (rs : List Reader) → map (map sent_of) (none_of rs) ≡ none_of rs
 none_sent [] = refl
 none_sent (r ∷ rs) = ap (λ l. [] ∷ l) (none_sent rs)
 
-none_to : (p : Layout) (s : ℕ) (rs : List Reader) → Pointwise (λ r xs. Each (IsTo p s r) xs) rs (none_of rs)
+pub none_to : (p : Layout) (s : ℕ) (rs : List Reader) → Pointwise (λ r xs. Each (IsTo p s r) xs) rs (none_of rs)
 none_to p s [] = tt
 none_to p s (r ∷ rs) = (tt, none_to p s rs)
 

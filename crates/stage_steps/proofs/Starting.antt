@@ -29,11 +29,11 @@ empty_line p [] (l ∷ line) h e = absurd h
 empty_line p (b ∷ bs) [] h e = absurd h
 empty_line p (b ∷ bs) (l ∷ line) h e = (empty_front p b l.entries e.0, empty_line p bs line h.1 e.1)
 
-as_many : (p : Layout) (bs : List ℕ) (line : List LogView) → Pointwise (IsOf p) bs line → length line ≡ length bs
-as_many p [] [] h = refl
-as_many p [] (l ∷ line) h = absurd h
-as_many p (b ∷ bs) [] h = absurd h
-as_many p (b ∷ bs) (l ∷ line) h = ap suc (as_many p bs line h.1)
+pub line_size : (p : Layout) (bs : List ℕ) (line : List LogView) → Pointwise (IsOf p) bs line → length line ≡ length bs
+line_size p [] [] h = refl
+line_size p [] (l ∷ line) h = absurd h
+line_size p (b ∷ bs) [] h = absurd h
+line_size p (b ∷ bs) (l ∷ line) h = ap suc (line_size p bs line h.1)
 
 each_entries : (line : List LogView) → Each (λ (l : LogView). l.entries ≡ []) line → Each (λ (es : List Change). es ≡ []) (entries_of line)
 each_entries [] h = tt
@@ -66,7 +66,7 @@ module _ (p : Layout) (s : ℕ) (line : List LogView) (rows : Held) (n m : ℕ) 
   new = record { plan = p; shard = s; line = line; rows = rows; pending = pending; marks = marks }
 
   all_sources : n ≡ length (sources p)
-  all_sources = count ∙ as_many p (sources p) line of
+  all_sources = count ∙ line_size p (sources p) line of
 
   pub new_whole : IsShard new
   new_whole = record {

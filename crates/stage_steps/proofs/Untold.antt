@@ -37,7 +37,7 @@ use Rattle.stage_steps.specs.Told.{evicts_at, names_in}
 use Rattle.stage_steps.proofs.Names.{set_is}
 
 -- ---- the protocol's word for these rows
-knows_is : (keys : Option Keys) (x : Datum) → is_known x keys ≡ knows keys x
+pub knows_is : (keys : Option Keys) (x : Datum) → is_known x keys ≡ knows keys x
 knows_is None x = refl
 knows_is (Some keys) x = refl
 

@@ -1,10 +1,9 @@
 -- What a stage shard holds, and what a part of a step makes of it.
 use Rattle.std.specs.Prelude.{◌≡◌, ◌<◌, ◌∷◌, ℕ, cond, drop, false, IsSome, length, List, [], map, None, Option, Some, slice_get}
-use Rattle.row.specs.Cells.{Datum, datum_cmp, datum_of, row_cmp}
-use Rattle.row.specs.Bags.{Each, IsAlike, sorted}
+use Rattle.row.specs.Cells.{Datum, datum_of, row_cmp}
+use Rattle.row.specs.Bags.{Each, IsAlike}
 use Rattle.row.specs.declared.value.Value.{Value}
-use Rattle.plan.specs.Layouts.{Layout, SideLayout, ViewLayout}
-use Rattle.plan.specs.Outputs.{keys_of}
+use Rattle.plan.specs.Layouts.{Layout, SideLayout}
 use Rattle.model.specs.Fronts.{LogView}
 use Rattle.model.specs.Places.{side_count, source_at, sources}
 use Rattle.model.specs.Queries.{Line, left}
@@ -115,7 +114,7 @@ given s a = put s (λ asked r. cond (is_of s.plan (view_of a.tag) a.key r) (with
 
 -- the names for each view of the left rows of stage key k
 abbrev pub gone_names : Shard → Datum → List (List Datum)
-gone_names x k = map (λ (v : ViewLayout). sorted datum_cmp (keys_of v.key (of_stage_key (stage_of x) k))) x.plan.views
+gone_names x k = names_of x.plan (of_stage_key (stage_of x) k)
 
 -- what each view shard is told as stage key k goes
 abbrev pub gone_to : Shard → Datum → Reader → List StagePacketView

@@ -89,6 +89,13 @@ impl<'p, F: Fronts> StageShard<'p, F> {
         })
     }
 
+    /// The stage shard that it is.
+    pub fn shard(&self) -> usize
+        ensures { result ≡ self.now.shard }
+    {
+        self.shard
+    }
+
     /// The line of fronts that it holds, one of each source of its plan.
     pub fn line(&self) -> &Line<F>
         ensures { result.now ≡ self.now.line }

@@ -1,4 +1,4 @@
--- A message that is for a domain is of the logs that it holds, and a step leaves of which plan it is.
+-- A message that is for a domain is of the logs that it holds.
 use Rattle.std.proofs.Common.{◌≡◌, ◌≢◌, ◌⊎◌, inl, inr, ℕ, zero, suc, ◌<◌, List, [], ◌∷◌, map, length, Option, Some, None, slice_get, slice_index_or, refl, ap, sym, ◌∙◌, subst, arith}
 use Rattle.row.specs.Bags.{Each}
 use Rattle.plan.specs.Facts.{Facts}
@@ -14,8 +14,7 @@ use Rattle.protocol.specs.StageSteps.{step}
 use Rattle.protocol.proofs.Lists.{each_at}
 use Rattle.stage_domain.specs.Domains.{Meets, stage_of}
 use Rattle.stage_domain.specs.Domains.{Domain as StageDomain}
-use Rattle.stage_domain.proofs.FullSteps.{entry_step, marker_step, piece_step, request_step}
-use Rattle.stage_domain.proofs.Lines.{some_source}
+use Rattle.stage_steps.proofs.Lines.{some_source}
 use Rattle.view_domain.specs.Codes.{GoesWith, IsFrom}
 use Rattle.view_domain.specs.Domains.{Domain as ViewDomain}
 use Rattle.workers.specs.StageTurns.{IsFor}
@@ -36,17 +35,6 @@ stage_meets d (packet j k) of f =
     (f, (o.plan ∙ sym f.plan, o.base ∙ sym f.base))
 stage_meets d (request a) of f = f
 stage_meets d (order x) of f = f
-
-stays_packet : (d : StageDomain) (j : ℕ) (k : BasePacketView) (piece : Option Piece) (m : Option Mark) → k.piece ≡ piece → k.marker ≡ m → (step (stage_of d) (packet j k)).stage.plan ≡ d.plan
-stays_packet d j k (Some piece) m e f = ap (λ (x : Done). x.stage.plan) (piece_step d.plan d.shard (entries_of d.line) d.marks j k piece e)
-stays_packet d j k None (Some m) e f = ap (λ (x : Done). x.stage.plan) (marker_step d.plan d.shard (entries_of d.line) d.marks j k m e f)
-stays_packet d j k None None e f = ap (λ (x : Done). x.stage.plan) (entry_step d.plan d.shard (entries_of d.line) d.marks j k e f)
-
--- a step leaves of which plan it is
-pub stage_stays : (d : StageDomain) (m : ToStage) → (step (stage_of d) m).stage.plan ≡ d.plan
-stage_stays d (packet j k) = stays_packet d j k k.piece k.marker refl refl
-stage_stays d (request a) = ap (λ (x : Done). x.stage.plan) (request_step d.plan d.shard (entries_of d.line) d.marks a)
-stage_stays d (order x) = refl
 
 -- ---- view shards
 lines_even : (p : Layout) (bs : List ℕ) (held to : List LogView) → Pointwise (IsOf p) bs held → Pointwise (IsOf p) bs to → Pointwise (GoesWith are_one) held (entries_of to)

@@ -6,7 +6,6 @@ use Rattle.model.specs.Places.{sources}
 use Rattle.packet.specs.declared.mode.Mode.TheVariants as mode
 use Rattle.base_domain.specs.Domains.{Domain as BaseDomain}
 use Rattle.routes.specs.Mails.{empty_log}
-use Rattle.stage_domain.specs.Domains.{Domain as StageDomain}
 use Rattle.view_domain.specs.Domains.{Domain as ViewDomain}
 
 -- the empty log of each source
@@ -16,10 +15,6 @@ empty_line p = map (empty_log p) (sources p)
 -- a base shard at this front, to which none of so many sessions has written
 abbrev pub fresh_base : {F : Type 0} → F → ℕ → BaseDomain F
 fresh_base front sessions = record { front = front; next = replicate sessions 0; stopped = false }
-
--- stage shard s, which knows nothing yet
-abbrev pub fresh_stage : Layout → ℕ → StageDomain
-fresh_stage p s = record { plan = p; shard = s; line = empty_line p; marks = []; mode = mode.Running }
 
 -- shard j of view i, with no key filled
 abbrev pub fresh_view : Layout → ℕ → ℕ → ViewDomain

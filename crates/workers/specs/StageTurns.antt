@@ -6,8 +6,9 @@ use Rattle.packet.specs.Readers.{view_of}
 use Rattle.packet.specs.declared.mode.Mode.TheVariants.{Running}
 use Rattle.protocol.specs.Stages.{ToStage, packet, request, order}
 use Rattle.protocol.specs.StageSteps.{step}
-use Rattle.stage_domain.specs.Domains.{Domain, IsDone, IsFrom, IsNext, stage_of, stopped}
-use Rattle.stage_domain.specs.Outboxes.{OutboxView}
+use Rattle.stage_domain.specs.Domains.{Domain, IsDone, IsNext, stage_of, stopped}
+use Rattle.stage_steps.specs.Shards.{IsFrom}
+use Rattle.stage_steps.specs.Outboxes.{OutboxView}
 
 -- the message is for the stage shard: a packet is to it, from the base shard that is the source on whose edge it came; the view of a request is one of the plan; of an order nothing is asked
 abbrev pub IsFor : Domain → ToStage → Type 0

@@ -3,7 +3,8 @@ ghost use Rattle.std.specs.Prelude.{◌≡◌, ◌<◌, length, replicate, IfOk}
 ghost use Rattle.model.specs.Places.{base_count, sources as sources_of};
 ghost use Rattle.row.specs.Bags.{Each};
 ghost use Rattle.shown.specs.Snapshots.{first_of};
-ghost use Rattle.workers.specs.Fresh.{empty_line, fresh_base, fresh_stage, fresh_view};
+ghost use Rattle.stage_domain.specs.Domains.{IsNew};
+ghost use Rattle.workers.specs.Fresh.{empty_line, fresh_base, fresh_view};
 ghost use Rattle.workers.specs.ViewTurns.{Shows};
 
 use base_domain::base_domain::BaseDomain;
@@ -50,7 +51,7 @@ pub fn fresh_stage<'p, J: Naming>(
     requires sources { sources.now ≡ sources_of J.plan }
     requires range { Each (λ b. b < base_count J.plan) sources.now }
     requires shard { shard < J.plan.stages }
-    ensures { IfOk result (λ d. d ≡ fresh_stage J.plan shard) }
+    ensures { IfOk result (IsNew J.plan shard (empty_line J.plan)) }
 {
     let line = empty_line(alloc, part, sources)?;
     StageDomain::new(alloc, plan, shard, line)

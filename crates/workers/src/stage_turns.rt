@@ -3,9 +3,10 @@ ghost use Rattle.std.specs.Prelude.{◌≡◌, ◌≢◌, ◌<◌, length, IfErr
 ghost use Rattle.model.specs.Places.{sources as sources_of};
 ghost use Rattle.packet.specs.Readers.{view_of};
 ghost use Rattle.packet.specs.declared.mode.Mode.TheVariants.{Running};
-ghost use Rattle.stage_domain.specs.Codes.{message_of};
-ghost use Rattle.stage_domain.specs.Domains.{IsFrom, Meets};
-ghost use Rattle.stage_domain.specs.Outboxes.{AreEdges, IsSilent};
+ghost use Rattle.stage_steps.specs.Codes.{message_of};
+ghost use Rattle.stage_domain.specs.Domains.{Meets};
+ghost use Rattle.stage_steps.specs.Outboxes.{AreEdges, IsSilent};
+ghost use Rattle.stage_steps.specs.Shards.{IsFrom};
 ghost use Rattle.workers.specs.StageTurns.{IsFor, IsTaken, IsUntaken};
 ghost use Rattle.workers.specs.ViewTurns.{are_one};
 
@@ -16,9 +17,9 @@ use packet::mode::Mode;
 use packet::request::Request;
 use plan::plan::Plan;
 use row::refused::Refused;
-use stage_domain::message::ToStage;
-use stage_domain::outbox::StageOutbox;
 use stage_domain::stage_domain::StageDomain;
+use stage_steps::message::ToStage;
+use stage_steps::outbox::StageOutbox;
 use std::alloc::Global;
 
 /// A stage shard takes one message from its inbox into a clear outbox with an edge to each view
@@ -70,6 +71,7 @@ fn is_for<J: Naming>(
     message: &ToStage<Front<J>>,
 ) -> bool
     requires plan { (plan.now ≡ J.plan) × (domain.now.plan ≡ J.plan) }
+    requires running { domain.now.mode ≡ Running }
     requires sources { sources.now ≡ sources_of J.plan }
     ensures yes { IsTrue result → IsFor domain.now (message_of message.now) }
     ensures no { IsFalse result → IsFor domain.now (message_of message.now) → ⊥ }

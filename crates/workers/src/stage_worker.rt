@@ -3,8 +3,8 @@ ghost use Rattle.std.specs.Prelude.{◌≡◌, ◌<◌, length};
 ghost use Rattle.packet.specs.Messages.{none_of};
 ghost use Rattle.packet.specs.Outboxes.{packets_on};
 ghost use Rattle.packet.specs.declared.mode.Mode.TheVariants.{Running};
-ghost use Rattle.stage_domain.specs.Codes.{message_of};
-ghost use Rattle.stage_domain.specs.Outboxes.{AreEdges, IsSilent};
+ghost use Rattle.stage_steps.specs.Codes.{message_of};
+ghost use Rattle.stage_steps.specs.Outboxes.{AreEdges, IsSilent};
 ghost use Rattle.workers.specs.StageTurns.{Went};
 
 use crate::fresh::fresh_stage;
@@ -21,9 +21,9 @@ use plan::domain::DomainId;
 use routes::routes::Routes;
 use row::refused::Refused;
 use schedule::wire::Spot;
-use stage_domain::message::ToStage;
-use stage_domain::outbox::StageOutbox;
 use stage_domain::stage_domain::StageDomain;
+use stage_steps::message::ToStage;
+use stage_steps::outbox::StageOutbox;
 use std::alloc::Global;
 use std::sync::Wait;
 

@@ -43,12 +43,12 @@ impl<'p> Model for World<'p> {
 
 impl<'p> World<'p> {
     /// The world of a plan before the first event: all logs are empty, no key is filled, all edges
-    /// are empty, and no session has called. Each stage shard holds both of its sides in full.
+    /// are empty, and no session has called. In each stage shard every right key is a hole.
     /// Errors: memory only, and then there is no world. Cost: for each view shard a line for each
     /// stage shard, and in each line a front for each source; for each session a number for each
     /// base shard.
     pub fn new(alloc: Global, plan: &'p Plan) -> Result<World<'p>, AllocError>
-        ensures world { IfOk result (λ w. world_in w ≡ start false plan.now) }
+        ensures world { IfOk result (λ w. world_in w ≡ start true plan.now) }
         ensures whole { IfOk result (λ w. w.broken ≡ false) }
     {
         Ok(World {
@@ -87,7 +87,7 @@ impl<'p> World<'p> {
 /// Errors: memory only. Cost: that of each step.
 pub fn replay(alloc: Global, plan: &Plan, events: &[Event]) -> Result<Vec<Reply>, Refused>
     ensures replies { IfOk result (λ v. map reply_of v.items
-        ≡ replies (start false plan.now) (map event_of events.now)) }
+        ≡ replies (start true plan.now) (map event_of events.now)) }
     ensures legal { IfOk result (λ v. AreLegal plan.now (map event_of events.now)
         (map reply_of v.items)) }
     ensures only { IsOkUnless result Refused.NoMemory }

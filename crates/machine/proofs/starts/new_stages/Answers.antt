@@ -1,11 +1,11 @@
-use Rattle.std.proofs.Common.{◌≡◌, [], map, sym, ◌∙◌, subst, arith}
-use Rattle.std.specs.List.{range_with_len}
+use Rattle.std.proofs.Common.{◌≡◌, [], sym, ◌∙◌, subst, arith}
 use Rattle.row.specs.Bags.{Each}
 use Rattle.model.specs.Fronts.{LogView}
 use Rattle.packet.specs.Lines.{AreOf}
-use Rattle.packet.proofs.Sends.{made_more}
-use Rattle.machine.specs.Started.{new_stage}
-use Rattle.machine.proofs.Starting.{line_of, line_empty, stage_made}
+use Rattle.machine.specs.Held.{Are}
+use Rattle.machine.specs.Started.{first_logs}
+use Rattle.stage_domain.specs.Domains.{IsNew}
+use Rattle.machine.proofs.Starting.{are_more, line_of, line_empty}
 use Rattle.machine.proofs.starts.new_stages.Goals as goal
 
 pub new-requires-clause-of : goal.new-requires-clause-of
@@ -16,9 +16,12 @@ new-requires-clause-empty g c = subst (Each (λ (l : LogView). l.entries ≡ [])
 
 pub loop-shard-preserved : goal.loop-shard-preserved
 loop-shard-preserved g c =
-    made_more (new_stage c.args.plan.now) c.loop-shard.shard c.loop-shard.stages.items c.push.new.self.items c.in_ok-new.field-0 c.loop-shard.invariant
-    (stage_made c.args.plan.now c.loop-shard.shard _ c.in_ok-new.field-0 (c.in_ok-try_clone.ensures ∙ c.requires) c.in_ok-new.ensures) c.in_ok-push.ensures.items
+    let p = c.args.plan.now in
+    let s = c.loop-shard.shard in
+    are_more (λ s d. IsNew p s (first_logs p) d) s c.loop-shard.stages.items c.push.new.self.items c.in_ok-new.field-0 c.loop-shard.invariant
+    (subst (λ line. IsNew p s line c.in_ok-new.field-0) (c.in_ok-try_clone.ensures ∙ c.requires) c.in_ok-new.ensures) c.in_ok-push.ensures.items
 
 pub returns : goal.returns
 returns g c =
-    subst (λ n. c.loop-shard.stages.items ≡ map (new_stage c.args.plan.now) (range_with_len 0 n)) (omega (arith, c.loop-shard-test.false, c.loop-shard.auto.shard-end, c.stages-shard-end.ensures)) c.loop-shard.invariant
+    let p = c.args.plan.now in
+    subst (λ n. Are (λ s d. IsNew p s (first_logs p) d) n c.loop-shard.stages.items) (omega (arith, c.loop-shard-test.false, c.loop-shard.auto.shard-end, c.stages-shard-end.ensures)) c.loop-shard.invariant

@@ -1,7 +1,7 @@
-use Rattle.std.proofs.Common.{◌≡◌, map}
-use Rattle.std.specs.List.{range_with_len}
-use Rattle.machine.specs.Started.{new_stage}
+use Rattle.machine.specs.Held.{Are}
+use Rattle.machine.specs.Started.{first_logs}
+use Rattle.stage_domain.specs.Domains.{IsNew}
 use Rattle.machine.proofs.starts.new_stages.Given as goal
 
 abbrev pub invariant-loop-shard : goal.invariant-loop-shard
-invariant-loop-shard g l = l.stages.items ≡ map (new_stage l.plan) (range_with_len 0 l.shard)
+invariant-loop-shard g l = Are (λ s d. IsNew l.plan s (first_logs l.plan) d) l.shard l.stages.items

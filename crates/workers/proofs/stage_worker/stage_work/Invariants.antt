@@ -1,6 +1,6 @@
 use Rattle.std.proofs.Common.{◌≡◌, length}
 use Rattle.packet.specs.declared.mode.Mode.TheVariants.{Running}
-use Rattle.stage_domain.specs.Outboxes.{AreEdges, IsSilent}
+use Rattle.stage_steps.specs.Outboxes.{AreEdges, IsSilent}
 use Rattle.workers.proofs.stage_worker.stage_work.Given as goal
 
 abbrev pub invariant-loop : goal.invariant-loop

@@ -1,4 +1,4 @@
-use Rattle.std.proofs.Common.{◌≡◌, ◌≤◌, ◌+◌, ◌++◌, suc, false, map, length, Some, ap, sym, ◌∙◌, subst, arith}
+use Rattle.std.proofs.Common.{◌≡◌, ◌≤◌, ◌+◌, ◌++◌, suc, true, map, length, Some, ap, sym, ◌∙◌, subst, arith}
 use Rattle.std.proofs.lemmas.List.{length-map}
 use Rattle.protocol.specs.Theorem.{AreLegal}
 use Rattle.protocol.specs.WorldSteps.{replies}
@@ -34,4 +34,4 @@ returns-clause-legal c =
     let events = c.args.events.now in
     let all : length (map event_of events) ≤ c.loop-at.at = subst (λ n. n ≤ c.loop-at.at) (sym (length-map events event_of)) c.loop-at-test.false in
     let are = all_replied (map event_of events) c.loop-at.at (world_in c.loop-at.world) (map reply_of c.loop-at.replies.items) _ all c.loop-at.invariant in
-    subst (λ rs. AreLegal c.args.plan.now (map event_of events) rs) (sym are) (every_schedule false c.args.plan.now c.keeps_profile.ensures.plan (map event_of events))
+    subst (λ rs. AreLegal c.args.plan.now (map event_of events) rs) (sym are) (every_schedule true c.args.plan.now c.keeps_profile.ensures.plan (map event_of events))

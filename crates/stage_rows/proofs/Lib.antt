@@ -1,5 +1,0 @@
-pub mod Founds
-pub mod Pieces
-pub mod Keeps
-pub mod Steps
-pub mod Views
