@@ -345,8 +345,10 @@ impl<'p, F: Fronts> BaseDomain<'p, F> {
     /// refused for a packet, and then the reply to a write says that it was accepted. A write comes
     /// to that only over fronts that may be refused for memory: all other room is made before its
     /// entry is appended. After an error nothing is on the edges, and it has stopped. Cost: for a
-    /// write, that of `BaseShard::commit` and of one `BaseShard::check_changes`, or of one `check`
-    /// where the table is none of the stage; for a request, that of `BaseShard::lookup`.
+    /// write, that of `BaseShard::reserve`, `reserve_indexes` and `commit`, and of one
+    /// `check_changes`, or of one `check` where the table is none of the stage; for a request, that
+    /// of `BaseShard::lookup`, which from an append that was refused for memory to the next insert
+    /// or update looks at each row.
     pub fn receive(
         &mut self,
         alloc: Global,

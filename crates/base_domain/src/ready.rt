@@ -58,7 +58,8 @@ pub(crate) fn weigh<F: Fronts>(
     Ok(Ok(Some(StageParts::new(alloc, by_stage)?)))
 }
 
-/// A copy of the entry, for which the shard and the outbox then have room.
+/// A copy of the entry, for which the shard and the outbox then have room. Errors: memory only.
+/// Cost: a copy of the entry, and that of `BaseShard::reserve` and of `reserve_indexes`.
 pub(crate) fn ready_for<F: Fronts>(
     alloc: Global,
     shard: &mut BaseShard,
@@ -75,7 +76,7 @@ pub(crate) fn ready_for<F: Fronts>(
 {
     let kept = entry.try_clone(alloc)?;
     out.reserve()?;
-    shard.reserve_indexes(alloc, entry)?;
     shard.reserve(alloc, entry)?;
+    shard.reserve_indexes(alloc, entry)?;
     Ok(kept)
 }

@@ -77,7 +77,7 @@ impl<'p, F: Fronts> StageDomain<'p, F> {
         self.shard.shard()
     }
 
-    /// The line of fronts that it holds, one of each source of its plan.
+    /// The line of fronts that it holds, one of each source of its plan unless it is broken.
     pub fn line(&self) -> &Line<F>
         ensures line { result.now ≡ self.now.line }
         ensures of { self.now.mode ≢ Mode.Broken → AreOf self.now.plan result.now }
