@@ -7,6 +7,7 @@ use Rattle.std.specs.Ordering.{is_eq, is_gt, ordering_reverse}
 use Rattle.row.specs.Cells.{Datum, Cells, datum_cmp, same, cell_at}
 use Rattle.row.specs.CellOrder.{datum_total, datum_same}
 use Rattle.row.specs.Bags.{inserted, sorted, Each}
+use Rattle.row.proofs.Filtered.{Each-filter}
 use Rattle.row.proofs.Shards.{same_is, same_self}
 use Rattle.plan.specs.Outputs.{keys_of}
 use Rattle.packet.specs.Keys.{is_among, Ascends}
@@ -132,20 +133,12 @@ ascends_sorted : (ys : List Datum) → Singles ys → Ascends (sorted datum_cmp 
 ascends_sorted [] h = tt
 ascends_sorted (y ∷ ys) h = ascends_inserted y (sorted datum_cmp ys) (ascends_sorted ys h.1) (among_sorted ys y ∙ h.0)
 
-above_filter : (p : Datum → Bool) (x : Datum) (ys : List Datum) → Above x ys → Above x (filter p ys)
-above_filter p x [] h = tt
-above_filter p x (y ∷ ys) h = step (p y) (above_filter p x ys h.1)
-  where
-    step : (b : Bool) → Above x (filter p ys) → Above x (cond b (y ∷ filter p ys) (filter p ys))
-    step true r = (h.0, r)
-    step false r = r
-
 pub ascends_filter : (p : Datum → Bool) (ys : List Datum) → Ascends ys → Ascends (filter p ys)
 ascends_filter p [] h = tt
 ascends_filter p (y ∷ ys) h = step (p y) (ascends_filter p ys h.1)
   where
     step : (b : Bool) → Ascends (filter p ys) → Ascends (cond b (y ∷ filter p ys) (filter p ys))
-    step true r = (above_filter p y ys h.0, r)
+    step true r = (Each-filter (λ z. datum_cmp y z ≡ Less) p ys h.0, r)
     step false r = r
 
 -- ---- the values of a column

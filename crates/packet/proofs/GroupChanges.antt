@@ -59,7 +59,7 @@ each_group P (e ∷ es) distinct h =
         subst (λ b. P k (or_empty (cond b (Some e.1) (lookup (λ y. same (datum_of k) (datum_of y)) es)))) (same_flip (datum_of k) (datum_of e.0) ∙ apart)
         (h k (ap (λ b. b || is_among (names_of es) (datum_of k)) apart ∙ n))
 
-pub all_fit : (s : ℕ) (kept : Store) (groups items : KeyedRecords) → groups ≡ items → IsDistinct equal (keys_of groups)
+all_fit : (s : ℕ) (kept : Store) (groups items : KeyedRecords) → groups ≡ items → IsDistinct equal (keys_of groups)
     → ((k : Value) → is_among (names_of groups) (datum_of k) ≡ true → ChangeFits IsCovered s (records_at groups (datum_of k)) (state_of equal kept k)) → Each (FitsAt s kept) items
 all_fit s kept groups items e distinct h = subst (Each (FitsAt s kept)) e (each_group (λ k rs. ChangeFits IsCovered s rs (state_of equal kept k)) groups distinct h)
 
@@ -76,10 +76,10 @@ module _ (source : ℕ) (mid new : Store) (key : Value) (records : List Record) 
   each_other [] a h = tt
   each_other (e ∷ es) a h = (subst (ChangeFits IsCovered source e.1) (sym (others e.0 a.0)) h.0, each_other es a.1 h.1)
 
-  pub rest_fits : Each (FitsAt source mid) rest → Each (FitsAt source new) rest
+  rest_fits : Each (FitsAt source mid) rest → Each (FitsAt source new) rest
   rest_fits h = each_other rest (IsDistinct-head equal key (keys_of rest) distinct) h
 
-  pub rest_changed : state_of equal new key ≡ after_change with_records source records (state_of equal mid key)
+  rest_changed : state_of equal new key ≡ after_change with_records source records (state_of equal mid key)
       → (k : Value) → changed_by source (lookup (equal k) ((key, records) ∷ rest)) (state_of equal mid k) ≡ changed_by source (lookup (equal k) rest) (state_of equal new k)
   rest_changed applied k = step (equal k key) refl
     where
@@ -123,3 +123,39 @@ pub taken_stands : {A E : Type 0} (s : ℕ) (key : Value) (records : List Record
     → stands_of new ≡ stands_of old
 taken_stands s key records old new (Ok x) state others order err = changed_stands s key records old new state others order
 taken_stands s key records old new (Err x) state others order err = ap stands_of err
+
+-- ---- a walk over the groups
+-- the groups of `rest` are left to do: each fits, and what they make of the keys as they are is what all groups make of the keys as they first were
+pub record IsWalked (source : ℕ) (first : Store) (groups : KeyedRecords) (kept : Store) (rest : KeyedRecords) : Type 0 where
+  pub distinct : IsDistinct equal (keys_of rest)
+  pub fits : Each (FitsAt source kept) rest
+  pub sources : kept.sources ≡ first.sources
+  pub stands : stands_of kept ≡ stands_of first
+  pub state : (k : Value) → changed_by source (lookup (equal k) groups) (state_of equal first k) ≡ changed_by source (lookup (equal k) rest) (state_of equal kept k)
+
+pub walk_starts : (source : ℕ) (first : Store) (groups items : KeyedRecords) → groups ≡ items → IsDistinct equal (keys_of groups)
+    → ((k : Value) → is_among (names_of groups) (datum_of k) ≡ true → ChangeFits IsCovered source (records_at groups (datum_of k)) (state_of equal first k)) → IsWalked source first groups first items
+walk_starts source first groups items e distinct h = record {
+  distinct = subst (λ g. IsDistinct equal (keys_of g)) e distinct;
+  fits = all_fit source first groups items e distinct h;
+  sources = refl;
+  stands = refl;
+  state = λ k. ap (λ g. changed_by source (lookup (equal k) g) (state_of equal first k)) e;
+}
+
+module _ (source : ℕ) (first : Store) (groups : KeyedRecords) (mid : Store) (key : Value) (records : List Record) (items rest : KeyedRecords) (next : items ≡ (key, records) ∷ rest) (walked : IsWalked source first groups mid items) where
+  pub next_fits : FitsAt source mid (key, records)
+  next_fits = (subst (Each (FitsAt source mid)) next walked.fits).0
+
+  pub walk_goes : (new : Store) → OthersStay equal key mid new → new.sources ≡ mid.sources → stands_of new ≡ stands_of mid → state_of equal new key ≡ after_change with_records source records (state_of equal mid key) → IsWalked source first groups new rest
+  walk_goes new others sources stands state =
+      let distinct = subst (λ g. IsDistinct equal (keys_of g)) next walked.distinct in
+      record {
+        distinct = IsDistinct-tail equal key (keys_of rest) distinct;
+        fits = rest_fits source mid new key records rest distinct others (subst (Each (FitsAt source mid)) next walked.fits).1;
+        sources = sources ∙ walked.sources;
+        stands = stands ∙ walked.stands;
+        state = λ k. walked.state k
+            ∙ (ap (λ g. changed_by source (lookup (equal k) g) (state_of equal mid k)) next
+            ∙ rest_changed source mid new key records rest distinct others state k);
+      }

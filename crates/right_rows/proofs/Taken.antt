@@ -1,5 +1,5 @@
 -- Records of keys that wait: in groups, and in the pieces of their source.
-use Rattle.std.proofs.Common.{◌≡◌, ℕ, zero, suc, Bool, true, false, cond, ◌&&◌, List, [], ◌∷◌, ◌++◌, filter, Option, Some, None, slice_get, slice_set, Result, OnOk, OnErr, refl, ap, sym, ◌∙◌, subst, arith, true≢false}
+use Rattle.std.proofs.Common.{◌≡◌, ℕ, zero, suc, Bool, true, false, cond, ◌&&◌, List, [], ◌∷◌, ◌++◌, Option, Some, None, slice_get, slice_set, Result, OnOk, OnErr, refl, ap, sym, ◌∙◌, subst, arith, true≢false}
 use Rattle.std.specs.List.{IsDistinct}
 use Rattle.std.specs.Map.{keys_of}
 use Rattle.row.specs.Bags.{Each}
@@ -14,6 +14,7 @@ use Rattle.row.specs.declared.value.Value.{Value}
 use Rattle.row.proofs.Cellwise.{eq-value_is}
 use Rattle.row.proofs.BagChanges.{IsAscending-with_records}
 use Rattle.row.proofs.BagLemmas.{Each-inserted, Each-removed}
+use Rattle.row.proofs.Filtered.{Each-filter, Each-filtered}
 use Rattle.plan.specs.declared.kinds.Aggregate.{Aggregate}
 use Rattle.ops.specs.SideRows.{fits_64_bits}
 use Rattle.partial.specs.States.{State, Hole, Waiting, Filled, entry_of, state_of, is_waiting, is_filled, after_change, piece_changed, ChangeFits, OthersStay}
@@ -141,25 +142,9 @@ module _ (column : ℕ) (aggregate : Option Aggregate) where
   one_taken s records old new key r others own err of keyed = after_both column aggregate old new key (after_change with_records s records) r others own err (change_own (datum_of key) records of s) keyed
 
 -- ---- from the groups to the keys
-each_kept : (P : Record → Type 0) (p : Record → Bool) (rs : List Record) → Each P rs → Each P (filter p rs)
-each_kept P p [] h = tt
-each_kept P p (r ∷ rs) h = step (p r) (each_kept P p rs h.1)
-  where
-    step : (b : Bool) → Each P (filter p rs) → Each P (cond b (r ∷ filter p rs) (filter p rs))
-    step true k = (h.0, k)
-    step false k = k
-
-each_passes : (p : Record → Bool) (rs : List Record) → Each (λ r. p r ≡ true) (filter p rs)
-each_passes p [] = tt
-each_passes p (r ∷ rs) = step (p r) refl (each_passes p rs)
-  where
-    step : (b : Bool) → p r ≡ b → Each (λ r. p r ≡ true) (filter p rs) → Each (λ r. p r ≡ true) (cond b (r ∷ filter p rs) (filter p rs))
-    step true e k = (e, k)
-    step false e k = k
-
 module _ (column : ℕ) (d : Datum) (records group : List Record) where
   pub owned_at : (aggregate : Option Aggregate) (waits : Bool) → group ≡ cond waits (records_of column d records) [] → Each (λ (r : Record). fits_64_bits aggregate r.row ≡ true) records → AreRecordsOf column aggregate d group
-  owned_at aggregate true e h = rw e (record { keyed = each_passes (λ r. has column d r.row) records; fit = each_kept (λ r. fits_64_bits aggregate r.row ≡ true) (λ r. has column d r.row) records h })
+  owned_at aggregate true e h = rw e (record { keyed = Each-filtered (λ r. has column d r.row) records; fit = Each-filter (λ r. fits_64_bits aggregate r.row ≡ true) (λ r. has column d r.row) records h })
   owned_at aggregate false e h = rw e (record { keyed = tt; fit = tt })
 
 pub fits_at_key : (s : ℕ) (rs group : List Record) (st : State (List Cells)) → group ≡ cond (is_waiting st) rs [] → FitsPiece s rs st → ChangeFits IsCovered s group st

@@ -1,5 +1,5 @@
 -- The rows that pass a test, after records.
-use Rattle.std.proofs.Common.{◌≡◌, ℕ, ◌+◌, ◌<◌, ◌≤◌, nat_lt, Bool, true, false, cond, List, [], ◌∷◌, length, filter, refl, ap, ◌∙◌, arith, Ordering}
+use Rattle.std.proofs.Common.{◌≡◌, ℕ, ◌+◌, ◌<◌, ◌≤◌, nat_lt, Bool, true, false, cond, List, [], ◌∷◌, length, filter, refl, ap, sym, ◌∙◌, arith, Ordering}
 use Rattle.std.specs.declared.cmp.Ordering.TheVariants.{Less, Equal, Greater}
 use Rattle.std.specs.Ordering.{is_eq, is_gt}
 use Rattle.row.specs.Cells.{Datum, Cells, row_cmp, has, cell_at}
@@ -22,21 +22,38 @@ same_both : (b : Bool) (rows : List Cells) → rows ≡ cond b rows rows
 same_both true rows = refl
 same_both false rows = refl
 
-pub Each-filtered : (p : Cells → Bool) (rows : List Cells) → Each (λ r. p r ≡ true) (filter p rows)
+-- ---- elements of any kind that pass a test
+pub Each-filtered : {X : Type 0} (p : X → Bool) (xs : List X) → Each (λ x. p x ≡ true) (filter p xs)
 Each-filtered p [] = tt
-Each-filtered p (r ∷ rows) = step (p r) refl (Each-filtered p rows)
+Each-filtered p (x ∷ xs) = step (p x) refl (Each-filtered p xs)
   where
-    step : (b : Bool) → p r ≡ b → Each (λ r. p r ≡ true) (filter p rows) → Each (λ r. p r ≡ true) (cond b (r ∷ filter p rows) (filter p rows))
+    step : (b : Bool) → p x ≡ b → Each (λ z. p z ≡ true) (filter p xs) → Each (λ z. p z ≡ true) (cond b (x ∷ filter p xs) (filter p xs))
     step true e k = (e, k)
     step false e k = k
 
-pub Each-filter : (P : Cells → Type 0) (p : Cells → Bool) (rows : List Cells) → Each P rows → Each P (filter p rows)
+pub Each-filter : {X : Type 0} (P : X → Type 0) (p : X → Bool) (xs : List X) → Each P xs → Each P (filter p xs)
 Each-filter P p [] h = tt
-Each-filter P p (r ∷ rows) h = step (p r) (Each-filter P p rows h.1)
+Each-filter P p (x ∷ xs) h = step (p x) (Each-filter P p xs h.1)
   where
-    step : (b : Bool) → Each P (filter p rows) → Each P (cond b (r ∷ filter p rows) (filter p rows))
+    step : (b : Bool) → Each P (filter p xs) → Each P (cond b (x ∷ filter p xs) (filter p xs))
     step true k = (h.0, k)
     step false k = k
+
+-- what follows of each from two facts of it
+pub Each-both : {X : Type 0} (P Q R : X → Type 0) (xs : List X) → ((x : X) → P x → Q x → R x) → Each P xs → Each Q xs → Each R xs
+Each-both P Q R [] f h k = tt
+Each-both P Q R (x ∷ xs) f h k = (f x h.0 k.0, Each-both P Q R xs f h.1 k.1)
+
+-- a test that holds of none but those that pass another
+pub filter-kept_of : {X : Type 0} (q p : X → Bool) (xs : List X) → ((x : X) → q x ≡ true → p x ≡ true) → filter q (filter p xs) ≡ filter q xs
+filter-kept_of q p [] h = refl
+filter-kept_of q p (x ∷ xs) h = step (p x) refl (q x) refl (filter-kept_of q p xs h)
+  where
+    step : (a : Bool) → p x ≡ a → (b : Bool) → q x ≡ b → filter q (filter p xs) ≡ filter q xs → filter q (cond a (x ∷ filter p xs) (filter p xs)) ≡ cond b (x ∷ filter q xs) (filter q xs)
+    step true e true f k = rw f (ap (λ t. x ∷ t) k)
+    step true e false f k = rw f k
+    step false e true f k = absurd (true_false (sym (h x f) ∙ e))
+    step false e false f k = k
 
 pub IsAscending-filter : (p : Cells → Bool) (rows : List Cells) → IsAscending row_cmp rows → IsAscending row_cmp (filter p rows)
 IsAscending-filter p [] h = tt

@@ -10,6 +10,7 @@ use Rattle.row.specs.CellOrder.{row_total, row_same}
 use Rattle.row.specs.declared.value.Value.{Value}
 use Rattle.row.proofs.Alike.{sorted_alike, filter_alike}
 use Rattle.row.proofs.BagLemmas.{times-sorted}
+use Rattle.row.proofs.Filtered.{Each-filtered}
 use Rattle.plan.specs.Facts.{Facts}
 use Rattle.plan.specs.Kinds.{is_row}
 use Rattle.plan.specs.Layouts.{Layout, SideLayout, table_at}
@@ -40,14 +41,6 @@ use Rattle.stage_steps.proofs.Wholes.{some_after}
 use Rattle.stage_steps.proofs.LeftRows.{each_sorted}
 
 -- ---- the rows of a piece
-
-each_kept : (q : Cells → Bool) (xs : List Cells) → Each (λ r. q r ≡ true) (filter q xs)
-each_kept q [] = tt
-each_kept q (x ∷ xs) = step (q x) refl (each_kept q xs)
-  where
-    step : (b : Bool) → q x ≡ b → Each (λ r. q r ≡ true) (filter q xs) → Each (λ r. q r ≡ true) (cond b (x ∷ filter q xs) (filter q xs))
-    step true e rest = (e, rest)
-    step false e rest = rest
 
 both_kept : (row passes has_key : Cells → Bool) (xs : List Cells) → Each (λ r. row r ≡ true) xs → filter (λ r. row r && passes r) (filter has_key xs) ≡ filter has_key (filter passes xs)
 both_kept row passes has_key [] h = refl
@@ -121,7 +114,7 @@ module _ (x : Shard) (facts : Facts x.plan) (whole : IsShard x) (j : ℕ) (k : B
   module _ (rows : List Cells) (d : Datum) (key_is : d ≡ piece.key) (are : rows ≡ piece.rows) where
     pub fed_keyed : Each (λ r. has (right_key x.rows.plan.right) d r ≡ true) rows
     fed_keyed =
-        let each = each_sorted (λ r. has side.key piece.key r ≡ true) (filter (has side.key piece.key) (stage_rows x.plan x.shard side k.from)) (each_kept (has side.key piece.key) (stage_rows x.plan x.shard side k.from)) in
+        let each = each_sorted (λ r. has side.key piece.key r ≡ true) (filter (has side.key piece.key) (stage_rows x.plan x.shard side k.from)) (Each-filtered (has side.key piece.key) (stage_rows x.plan x.shard side k.from)) in
         let here = subst (λ rs. Each (λ r. has side.key piece.key r ≡ true) rs) (sym (are ∙ rows_are)) each in
         let named = subst (λ d. Each (λ r. has side.key d r ≡ true) rows) (sym key_is) here in
         subst (λ (q : Layout). Each (λ r. has (right_key q.right) d r ≡ true) rows) (sym whole.rows.plan) (subst (λ (o : Option SideLayout). Each (λ r. has (right_key o) d r ≡ true) rows) (sym room.1) named)

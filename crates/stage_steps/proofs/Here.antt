@@ -9,6 +9,7 @@ use Rattle.row.specs.Cells.{Cells, Datum, int, text, cell_at, datum_of, has, row
 use Rattle.row.specs.declared.value.Value.{Value}
 use Rattle.row.specs.declared.value.Value.TheVariants as code
 use Rattle.row.proofs.BagLemmas.{times-append, times-sorted}
+use Rattle.row.proofs.Filtered.{filter-kept_of}
 use Rattle.plan.specs.Kinds.{is_cell, is_plain, is_row}
 use Rattle.plan.specs.Layouts.{ColumnLayout, Layout, SideLayout}
 use Rattle.plan.specs.Outputs.{output, partners, with_total}
@@ -59,16 +60,6 @@ abbrev pub rows_named : Option (List Datum) → ℕ → List Cells → List Cell
 rows_named keys c rows = filter (λ r. is_named_here keys (cell_at r c)) rows
 
 -- ---- rows that pass a test
-kept_of : (q p : Cells → Bool) (rs : List Cells) → ((r : Cells) → q r ≡ true → p r ≡ true) → filter q (filter p rs) ≡ filter q rs
-kept_of q p [] h = refl
-kept_of q p (r ∷ rs) h = step (p r) refl (q r) refl (kept_of q p rs h)
-  where
-    step : (a : Bool) → p r ≡ a → (b : Bool) → q r ≡ b → filter q (filter p rs) ≡ filter q rs → filter q (cond a (r ∷ filter p rs) (filter p rs)) ≡ cond b (r ∷ filter q rs) (filter q rs)
-    step true e true f k = rw f (ap (λ t. r ∷ t) k)
-    step true e false f k = rw f k
-    step false e true f k = absurd (true≢false (sym (h r f) ∙ e))
-    step false e false f k = k
-
 none_of : (q p : Cells → Bool) (rs : List Cells) → ((r : Cells) → q r ≡ true → p r ≡ false) → filter q (filter p rs) ≡ []
 none_of q p [] h = refl
 none_of q p (r ∷ rs) h = step (p r) refl (q r) refl (none_of q p rs h)
@@ -80,7 +71,7 @@ none_of q p (r ∷ rs) h = step (p r) refl (q r) refl (none_of q p rs h)
 
 module _ (keys : Option (List Datum)) (c : ℕ) (rows : List Cells) (x : Datum) where
   named_same : is_named_here keys x ≡ true → filter (has c x) (rows_named keys c rows) ≡ filter (has c x) rows
-  named_same h = kept_of (has c x) (λ r. is_named_here keys (cell_at r c)) rows (λ r e. ap (is_named_here keys) (has_cell c x r e) ∙ h)
+  named_same h = filter-kept_of (has c x) (λ r. is_named_here keys (cell_at r c)) rows (λ r e. ap (is_named_here keys) (has_cell c x r e) ∙ h)
 
   named_none : is_named_here keys x ≡ false → filter (has c x) (rows_named keys c rows) ≡ []
   named_none h = none_of (has c x) (λ r. is_named_here keys (cell_at r c)) rows (λ r e. ap (is_named_here keys) (has_cell c x r e) ∙ h)

@@ -1,11 +1,12 @@
 -- What is here of a view's key is the stage shard's part of it, where nothing that it needs is lacking.
-use Rattle.std.proofs.Common.{◌≡◌, ℕ, ◌<◌, Bool, true, false, cond, List, [], ◌∷◌, ◌++◌, map, flat_map, filter, drop, length, Option, Some, None, refl, ap, sym, ◌∙◌, subst, arith}
+use Rattle.std.proofs.Common.{◌≡◌, ℕ, ◌<◌, Bool, true, List, [], ◌∷◌, ◌++◌, map, flat_map, filter, drop, length, Option, Some, None, refl, ap, sym, ◌∙◌, subst, arith}
 use Rattle.std.specs.Global.{Global}
 use Rattle.std.specs.List.{list_all}
 use Rattle.row.specs.Bags.{Each, IsAlike, sorted, times}
 use Rattle.row.specs.Cells.{Cells, Datum, cell_at, has, row_cmp}
 use Rattle.row.specs.CellOrder.{row_total, row_same}
 use Rattle.row.proofs.Alike.{sorted_alike, filter_alike}
+use Rattle.row.proofs.Filtered.{Each-both, Each-filter}
 use Rattle.row.proofs.BagLemmas.{Each-at, times-append, times-sorted}
 use Rattle.plan.specs.Facts.{Facts, IsView}
 use Rattle.plan.specs.Kinds.{is_row}
@@ -43,18 +44,6 @@ each_mapped : (f : Datum → Bool) (g : Cells → Datum) (ls : List Cells) → l
 each_mapped f g [] h = tt
 each_mapped f g (l ∷ ls) h = (and_left (f (g l)) (list_all f (map g ls)) h, each_mapped f g ls (and_right (f (g l)) (list_all f (map g ls)) h))
 
-each_filtered : (P : Cells → Type 0) (q : Cells → Bool) (ls : List Cells) → Each P ls → Each P (filter q ls)
-each_filtered P q [] h = tt
-each_filtered P q (l ∷ ls) h = step (q l) (each_filtered P q ls h.1)
-  where
-    step : (b : Bool) → Each P (filter q ls) → Each P (cond b (l ∷ filter q ls) (filter q ls))
-    step true rest = (h.0, rest)
-    step false rest = rest
-
-each_both : (P Q R : Cells → Type 0) (ls : List Cells) → ((l : Cells) → P l → Q l → R l) → Each P ls → Each Q ls → Each R ls
-each_both P Q R [] f h k = tt
-each_both P Q R (l ∷ ls) f h k = (f l h.0 k.0, each_both P Q R ls f h.1 k.1)
-
 then_alike : (xs ys zs : List Cells) → IsAlike row_cmp xs ys → IsAlike row_cmp ys zs → IsAlike row_cmp xs zs
 then_alike xs ys zs h k = record { each = λ z. h.each z ∙ k.each z }
 
@@ -73,10 +62,10 @@ module _ (left side : SideLayout) (here rights : List Cells) where
   known_alike : (a : Option Aggregate) (ls : List Cells) → Each IsComplete ls → IsAlike row_cmp (output left (Some side) a ls here) (output left (Some side) a ls rights)
   known_alike None ls h =
       all_alike (λ l. map (λ r. l ++ r) (partners left side here l)) (λ l. map (λ r. l ++ r) (partners left side rights l)) ls
-      (each_both IsComplete IsComplete _ ls (λ l c d. map_alike (λ r. l ++ r) (partners left side here l) (partners left side rights l) c) h h)
+      (Each-both IsComplete IsComplete _ ls (λ l c d. map_alike (λ r. l ++ r) (partners left side here l) (partners left side rights l) c) h h)
   known_alike (Some a) ls h =
       all_alike (λ l. with_total a l (partners left side here l)) (λ l. with_total a l (partners left side rights l)) ls
-      (each_both IsComplete IsComplete _ ls (λ l c d. record { each = λ z. ap (times row_cmp z) (with_total_alike a l (partners left side here l) (partners left side rights l) c) }) h h)
+      (Each-both IsComplete IsComplete _ ls (λ l c d. record { each = λ z. ap (times row_cmp z) (with_total_alike a l (partners left side here l) (partners left side rights l) c) }) h h)
 
 of_key : (left side : SideLayout) (c : ℕ) (k : Datum) (a : Option Aggregate) (ls rights : List Cells) → Each (λ l. c < length l) ls → filter (has c k) (output left (Some side) a ls rights) ≡ output left (Some side) a (filter (has c k) ls) rights
 of_key left side c k None ls rights wide = joins left side c k ls rights wide
@@ -121,7 +110,7 @@ module _ (x : Shard) (facts : Facts x.plan) (alloc : Global) (whole : IsShard x)
         subst (λ ys. IsAlike row_cmp (filter test (output x.plan.left None x.plan.aggregate ls here)) (filter test ys)) (alone x.plan.left x.plan.aggregate ls here []) (like (filter test (output x.plan.left None x.plan.aggregate ls here)))
     by (Some side) there =
         let wide = rows_wide x.plan own_key ls small rows in
-        let each = each_both _ _ _ (filter (has own_key k) ls) (complete side there) (each_filtered _ (has own_key k) ls rows) (each_mapped (knows (keys_in x.rows.right)) (λ l. cell_at l x.plan.left.key) (filter (has own_key k) ls) all) in
+        let each = Each-both _ _ _ (filter (has own_key k) ls) (complete side there) (Each-filter _ (has own_key k) ls rows) (each_mapped (knows (keys_in x.rows.right)) (λ l. cell_at l x.plan.left.key) (filter (has own_key k) ls) all) in
         rw (of_key x.plan.left side own_key k x.plan.aggregate ls x.rows.right.rows wide, of_key x.plan.left side own_key k x.plan.aggregate ls (side_rows x.plan x.shard side fronts) wide)
         (known_alike x.plan.left side x.rows.right.rows (side_rows x.plan x.shard side fronts) x.plan.aggregate (filter (has own_key k) ls) each)
 

@@ -1,40 +1,22 @@
-use Rattle.std.proofs.Common.{◌≡◌, ◌∙◌, sym, subst, refl, ap}
-use Rattle.std.specs.List.{IsDistinct}
-use Rattle.std.specs.Map.{lookup, keys_of}
-use Rattle.std.proofs.lemmas.Map.Keys.{IsDistinct-tail}
-use Rattle.row.specs.Bags.{Each}
-use Rattle.row.specs.Groups.{equal}
-use Rattle.partial.specs.States.{state_of}
-use Rattle.packet.specs.Groups.{changed_by}
-use Rattle.packet.proofs.GroupChanges.{FitsAt, all_fit, rest_fits, rest_changed}
+use Rattle.std.proofs.Common.{◌≡◌, ◌∙◌, sym}
+use Rattle.packet.proofs.GroupChanges.{next_fits, walk_goes, walk_starts}
 use Rattle.view_domain.proofs.keys.change_keys.Goals as goal
 
 pub loop-key-init : goal.loop-key-init
 loop-key-init c =
     let e : c.args.groups ≡ c.into_iter-key-iterator.result = sym (c.into_iter-key-iterator.ensures.into_iter_gives ∙ c.into_iter-key-items.ensures.rest) in
     record {
-      distinct = subst (λ g. IsDistinct equal (keys_of g)) e c.into_iter-key-items.ensures.distinct;
-      fits = all_fit c.args.source c.args.kept.now c.args.groups _ e c.into_iter-key-items.ensures.distinct c.requires;
-      sources = refl;
-      stands = refl;
-      state = λ k. ap (λ g. changed_by c.args.source (lookup (equal k) g) (state_of equal c.args.kept.now k)) e;
+      walked = walk_starts c.args.source c.args.kept.now c.args.groups _ e c.into_iter-key-items.ensures.distinct c.requires;
       shown = λ first h. h;
     }
 
 pub change_key-requires : goal.change_key-requires
-change_key-requires c = (subst (Each (FitsAt c.args.source c.loop-key.kept)) c.in-Some.ensures.steps c.loop-key.invariant.fits).0
+change_key-requires c = next_fits c.args.source c.args.kept.now c.args.groups c.loop-key.kept c.in-Some.key c.in-Some.records _ c.next.new.self c.in-Some.ensures.steps c.loop-key.invariant.walked
 
 pub loop-key-preserved : goal.loop-key-preserved
 loop-key-preserved c =
-    let distinct = subst (λ g. IsDistinct equal (keys_of g)) c.in-Some.ensures.steps c.loop-key.invariant.distinct in
+    let e = c.in_ok-change_key.ensures in
     record {
-      distinct = IsDistinct-tail equal c.in-Some.key (keys_of c.next.new.self) distinct;
-      fits = rest_fits c.args.source c.loop-key.kept c.change_key.new.kept c.in-Some.key c.in-Some.records c.next.new.self distinct c.in_ok-change_key.ensures.others
-          (subst (Each (FitsAt c.args.source c.loop-key.kept)) c.in-Some.ensures.steps c.loop-key.invariant.fits).1;
-      sources = c.in_ok-change_key.ensures.sources ∙ c.loop-key.invariant.sources;
-      stands = c.in_ok-change_key.ensures.stands ∙ c.loop-key.invariant.stands;
-      state = λ k. c.loop-key.invariant.state k
-          ∙ (ap (λ g. changed_by c.args.source (lookup (equal k) g) (state_of equal c.loop-key.kept k)) c.in-Some.ensures.steps
-          ∙ rest_changed c.args.source c.loop-key.kept c.change_key.new.kept c.in-Some.key c.in-Some.records c.next.new.self distinct c.in_ok-change_key.ensures.others c.in_ok-change_key.ensures.state k);
-      shown = λ first h. c.in_ok-change_key.ensures.shown first (c.loop-key.invariant.shown first h);
+      walked = walk_goes c.args.source c.args.kept.now c.args.groups c.loop-key.kept c.in-Some.key c.in-Some.records _ c.next.new.self c.in-Some.ensures.steps c.loop-key.invariant.walked c.change_key.new.kept e.others e.sources e.stands e.state;
+      shown = λ first h. e.shown first (c.loop-key.invariant.shown first h);
     }

@@ -1,4 +1,4 @@
-use Rattle.std.proofs.Common.{◌<◌, length, ap, ◌∙◌, sym, subst, rules}
+use Rattle.std.proofs.Common.{◌<◌, length, ap, ◌∙◌, rules}
 use Rattle.packet.specs.Outboxes.{EdgeView, packets_on}
 use Rattle.packet.proofs.Rooms.{packets_same, one_more}
 use Rattle.packet.proofs.edges.Edges.append.Goals as goal

@@ -1,4 +1,4 @@
-use Rattle.std.proofs.Common.{◌<◌, ◌≤◌, length, length-set, ◌∙◌, rules}
+use Rattle.std.proofs.Common.{◌<◌, length, length-set, ◌∙◌, rules}
 use Rattle.packet.proofs.Rooms.{each_more, all_clear}
 use Rattle.packet.proofs.edges.Edges.clear.Goals as goal
 
