@@ -2,6 +2,7 @@
 //! as the rows change. Nothing here waits, and nothing fails unless memory is refused.
 #![tactic(auto)]
 
+pub mod cells;
 pub mod difference;
 pub mod filter;
 pub mod shape;

@@ -3,7 +3,7 @@ ghost use Rattle.std.specs.Prelude.{◌≡◌, IfOk, map};
 ghost use Rattle.row.specs.Cells.{cell_at, datum_of};
 ghost use Rattle.stage_sides.specs.Held.{IsSetOf};
 
-use ops::stage::push_cells;
+use ops::cells::push_cells;
 use row::row::Row;
 use row::value::Value;
 use std::alloc::{AllocError, Global};
