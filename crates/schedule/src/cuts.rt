@@ -1,6 +1,6 @@
 //! Cuts of sessions: what they hold, and the greater of two.
-ghost use Rattle.std.specs.Prelude.{◌≡◌, ◌<◌, ℕ, [], map, length, slice_index_or, slice_set, IfOk, OnOk};
-ghost use Rattle.std.specs.List.{list_all, range_with_len};
+ghost use Rattle.std.specs.Prelude.{◌≡◌, ◌<◌, [], length, slice_index_or, slice_set, IfOk, OnOk};
+ghost use Rattle.std.specs.List.{list_all};
 ghost use Rattle.model.specs.Places.{sources};
 ghost use Rattle.protocol.specs.WorldSteps.{greater, greatest, raised};
 ghost use Rattle.schedule.specs.Sessions.{covers, greatest_line, holds, holds_line, is_covered};

@@ -2,7 +2,7 @@
 ghost use Rattle.std.specs.Prelude.{◌≡◌, ◌<◌, true, false, map, length, position, slice_get, Some, None, IfOk, IfSome, IfNone};
 ghost use Rattle.std.specs.Option.{option_map};
 ghost use Rattle.row.specs.Cells.{datum_of, shard};
-ghost use Rattle.plan.specs.Layouts.{table_at, view_at};
+ghost use Rattle.plan.specs.Layouts.{table_at};
 ghost use Rattle.model.specs.Entries.{change_of};
 ghost use Rattle.model.specs.Histories.{view_shard};
 ghost use Rattle.model.specs.Logs.{fits, key_of};

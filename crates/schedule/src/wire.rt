@@ -38,23 +38,11 @@ impl Way {
     fn wire(self, from: usize, to: usize) -> Wire
         ensures { wire_in result ≡ wire_on self from to }
     {
-        match self {
-            Way::FromSource => Wire::FromSource {
-                source: from,
-                stage: to,
-            },
-            Way::FromStage => Wire::FromStage {
-                stage: from,
-                reader: to,
-            },
-            Way::AskStage => Wire::AskStage {
-                reader: from,
-                stage: to,
-            },
-            Way::AskSource => Wire::AskSource {
-                stage: from,
-                source: to,
-            },
+        match (self, from, to) {
+            (Way::FromSource, source, stage) => Wire::FromSource { source, stage },
+            (Way::FromStage, stage, reader) => Wire::FromStage { stage, reader },
+            (Way::AskStage, reader, stage) => Wire::AskStage { reader, stage },
+            (Way::AskSource, stage, source) => Wire::AskSource { stage, source },
         }
     }
 }

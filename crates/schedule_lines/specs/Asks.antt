@@ -2,6 +2,10 @@
 use Rattle.std.specs.Prelude.{◌≡◌, ℕ, ◌<◌, List, [], ◌∷◌, ◌⊎◌, map, string_bytes, codes}
 use Rattle.std.specs.Fmt.{decimal}
 use Rattle.script.specs.Commands as script
+use Rattle.schedule_lines.specs.declared.event_line.EntryWords.{EntryWords}
+use Rattle.schedule_lines.specs.declared.event_line.EntryWords.TheVariants as entry
+use Rattle.schedule_lines.specs.declared.event_line.CallWords.{CallWords}
+use Rattle.schedule_lines.specs.declared.event_line.CallWords.TheVariants as call
 use Rattle.schedule_lines.specs.declared.event_line.EventLine.{EventLine}
 use Rattle.schedule_lines.specs.declared.event_line.EventLine.TheVariants as code
 
@@ -21,15 +25,23 @@ pub data Ask : Type 0 where
   stop : (domain : List ℕ) → Ask
   settle : Ask
 
+-- the program's words as a write of the session to the table
+abbrev pub write_of : ℕ → List ℕ → EntryWords → Ask
+write_of session table (entry.Insert cells) = insert session table (map string_bytes cells.items)
+write_of session table (entry.Update cells) = update session table (map string_bytes cells.items)
+write_of session table (entry.Delete key) = delete session table (string_bytes key)
+
+-- and as a call of the session
+abbrev pub called_by : ℕ → CallWords → Ask
+called_by session (call.Write table words) = write_of session (string_bytes table) words
+called_by session (call.Try view key) = try session (string_bytes view) (string_bytes key)
+called_by session (call.Want view key) = want session (string_bytes view) (string_bytes key)
+called_by session call.Fence = fence session
+called_by session (call.Count view) = count session (string_bytes view)
+
 -- the program's line as such
 abbrev pub ask_of : EventLine → Ask
-ask_of (code.Insert session table cells) = insert session (string_bytes table) (map string_bytes cells.items)
-ask_of (code.Update session table cells) = update session (string_bytes table) (map string_bytes cells.items)
-ask_of (code.Delete session table key) = delete session (string_bytes table) (string_bytes key)
-ask_of (code.Try session view key) = try session (string_bytes view) (string_bytes key)
-ask_of (code.Want session view key) = want session (string_bytes view) (string_bytes key)
-ask_of (code.Fence session) = fence session
-ask_of (code.Count session view) = count session (string_bytes view)
+ask_of (code.Call session words) = called_by session words
 ask_of (code.Deliver edge) = deliver (string_bytes edge)
 ask_of (code.EvictStage key) = evict_stage (string_bytes key)
 ask_of (code.EvictView view key) = evict_view (string_bytes view) (string_bytes key)

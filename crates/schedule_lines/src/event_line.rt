@@ -1,92 +1,74 @@
 //! The events that words ask for.
-ghost use Rattle.std.specs.Prelude.{◌≡◌, ◌≢◌, ◌↔◌, ℕ, pos, List, ◌<◌, length, map, string_bytes, IsTrue, IfOk, IfSome, IsNone, MatchOption};
-ghost use Rattle.schedule_lines.specs.Asks.{Ask, Asks, Calls, IsOrder, IsSession, IsWant, ask_of};
+ghost use Rattle.std.specs.Prelude.{◌≡◌, ◌≢◌, ◌↔◌, ℕ, pos, ◌<◌, length, map, string_bytes, IsTrue, IfOk, IfSome, IsNone, MatchOption};
+ghost use Rattle.schedule_lines.specs.Asks.{Ask, Asks, Calls, IsOrder, IsSession, IsWant, ask_of, called_by};
 
 use script::cell::number_of;
 use script::command::Command;
+use script::reader::Form;
 use std::alloc::{AllocError, Global};
 
 /// The greatest number of a session in a line, whether there is such a session or not.
 const LAST: i64 = 4294967295;
 
+/// What is written to a table, by its words.
+#[derive(PartialEq, Eq, Debug, Drop)]
+pub enum EntryWords {
+    /// A row, of at least one cell.
+    Insert(Vec<String>),
+    /// A row, of at least one cell, in place of the row of its key.
+    Update(Vec<String>),
+    /// The row of the key goes.
+    Delete(String),
+}
+
+/// What a session asks for, by its words.
+#[derive(PartialEq, Eq, Debug, Drop)]
+pub enum CallWords {
+    /// `insert TABLE CELL..`, `update TABLE CELL..` or `delete TABLE KEY`.
+    Write { table: String, entry: EntryWords },
+    /// `try VIEW KEY`: the rows of the key in the view, where they are shown.
+    Try { view: String, key: String },
+    /// `want VIEW KEY`: the view shard is asked for the key, as a read that misses asks it.
+    Want { view: String, key: String },
+    /// `fence`: the session's floors raised to what it has written.
+    Fence,
+    /// `count VIEW`: how many requests the shards of the view have sent.
+    Count { view: String },
+}
+
 /// What a line of a schedule asks for. A session stands by its number, all else by its words.
 #[derive(PartialEq, Eq, Debug, Drop)]
 pub enum EventLine {
-    /// `S insert TABLE CELL..`: a row, of at least one cell, for the table.
-    Insert {
-        session: usize,
-        table: String,
-        cells: Vec<String>,
-    },
-    /// `S update TABLE CELL..`: a row, of at least one cell, in place of the row of its key.
-    Update {
-        session: usize,
-        table: String,
-        cells: Vec<String>,
-    },
-    /// `S delete TABLE KEY`: the row of the key goes.
-    Delete {
-        session: usize,
-        table: String,
-        key: String,
-    },
-    /// `S try VIEW KEY`: the rows of the key in the view, where they are shown.
-    Try {
-        session: usize,
-        view: String,
-        key: String,
-    },
-    /// `S want VIEW KEY`: the view shard is asked for the key, as a read that misses asks it.
-    Want {
-        session: usize,
-        view: String,
-        key: String,
-    },
-    /// `S fence`: the session's floors raised to what it has written.
-    Fence {
-        session: usize,
-    },
-    /// `S count VIEW`: how many requests the shards of the view have sent.
-    Count {
-        session: usize,
-        view: String,
-    },
+    /// `S CALL`: what the session asks for.
+    Call { session: usize, call: CallWords },
     /// `deliver EDGE`: the first message of the edge comes.
-    Deliver {
-        edge: String,
-    },
+    Deliver { edge: String },
     /// `evict stage KEY`: the stage shard forgets the rows of the stage key.
-    EvictStage {
-        key: String,
-    },
+    EvictStage { key: String },
     /// `evict view VIEW KEY`: the view shard forgets the rows of the key.
-    EvictView {
-        view: String,
-        key: String,
-    },
+    EvictView { view: String, key: String },
     /// `stop DOMAIN`: the domain runs no more.
-    Stop {
-        domain: String,
-    },
+    Stop { domain: String },
     /// `settle`: deliveries until all edges are empty.
     Settle,
 }
 
-impl EventLine {
-    /// What the words ask for; none where they are of no form. Errors: memory only. Cost: a look at
-    /// each word.
-    pub fn of(alloc: Global, mut words: Vec<String>) -> Result<Option<EventLine>, AllocError>
-        requires { 0 < length words.items }
-        ensures some { IfOk result (λ found. IfSome found (λ line.
-            Asks (map string_bytes words.items) (ask_of line))) }
-        ensures none { IfOk result (λ found. IsNone found → (ask : Ask)
-            → ¬ Asks (map string_bytes words.items) ask) }
-    {
+impl Form for EventLine {
+    ghost Asked = { Ask };
+
+    ghost asked = { ask_of };
+
+    ghost asks = { Asks };
+
+    fn of_words(alloc: Global, mut words: Vec<String>) -> Result<Option<EventLine>, AllocError> {
         let Some(session) = session_of(alloc, words[0].as_str())? else {
             return Ok(order(words));
         };
         let _session = words.remove(0);
-        Ok(call(session, words))
+        let Some(call) = call(words) else {
+            return Ok(None);
+        };
+        Ok(Some(EventLine::Call { session, call }))
     }
 }
 
@@ -113,36 +95,34 @@ fn session_in(number: i64) -> Option<usize>
 }
 
 /// The call that the words behind a session's number ask for.
-fn call(session: usize, words: Vec<String>) -> Option<EventLine>
-    ensures some { IfSome result (λ line. Calls session (map string_bytes words.items)
-        (ask_of line)) }
-    ensures none { IsNone result → (ask : Ask) → ¬ Calls session (map string_bytes words.items) ask }
+fn call(words: Vec<String>) -> Option<CallWords>
+    ensures some { IfSome result (λ call. (session : ℕ)
+        → Calls session (map string_bytes words.items) (called_by session call)) }
+    ensures none { IsNone result → (session : ℕ) (ask : Ask)
+        → ¬ Calls session (map string_bytes words.items) ask }
 {
     if words.is_empty() {
         return None;
     }
     if is_want(&words) {
-        return want(session, words);
+        return want(words);
     }
     match Command::of(words)? {
-        Command::Insert { table, cells } => Some(EventLine::Insert {
-            session,
+        Command::Insert { table, cells } => Some(CallWords::Write {
             table,
-            cells,
+            entry: EntryWords::Insert(cells),
         }),
-        Command::Update { table, cells } => Some(EventLine::Update {
-            session,
+        Command::Update { table, cells } => Some(CallWords::Write {
             table,
-            cells,
+            entry: EntryWords::Update(cells),
         }),
-        Command::Delete { table, key } => Some(EventLine::Delete {
-            session,
+        Command::Delete { table, key } => Some(CallWords::Write {
             table,
-            key,
+            entry: EntryWords::Delete(key),
         }),
-        Command::Fence => Some(EventLine::Fence { session }),
-        Command::Try { view, key } => Some(EventLine::Try { session, view, key }),
-        Command::Count { view } => Some(EventLine::Count { session, view }),
+        Command::Fence => Some(CallWords::Fence),
+        Command::Try { view, key } => Some(CallWords::Try { view, key }),
+        Command::Count { view } => Some(CallWords::Count { view }),
         Command::Read { .. }
         | Command::Closing { .. }
         | Command::EvictStage { .. }
@@ -161,18 +141,19 @@ fn is_want(words: &[String]) -> bool
 }
 
 /// The words `want VIEW KEY`, of which the first is there.
-fn want(session: usize, mut words: Vec<String>) -> Option<EventLine>
+fn want(mut words: Vec<String>) -> Option<CallWords>
     requires { IsWant (map string_bytes words.items) }
-    ensures some { IfSome result (λ line. Calls session (map string_bytes words.items)
-        (ask_of line)) }
-    ensures none { IsNone result → (ask : Ask) → ¬ Calls session (map string_bytes words.items) ask }
+    ensures some { IfSome result (λ call. (session : ℕ)
+        → Calls session (map string_bytes words.items) (called_by session call)) }
+    ensures none { IsNone result → (session : ℕ) (ask : Ask)
+        → ¬ Calls session (map string_bytes words.items) ask }
 {
     if words.len() != 3 {
         return None;
     }
     let key = words.remove(2);
     let view = words.remove(1);
-    Some(EventLine::Want { session, view, key })
+    Some(CallWords::Want { view, key })
 }
 
 /// What words that begin with no session's number ask for.

@@ -1,16 +1,22 @@
 //! The events that a schedule is over a plan.
-ghost use Rattle.std.specs.Prelude.{◌≡◌, List, map, string_bytes, IfOk};
+ghost use Rattle.std.specs.Prelude.{◌≡◌, ℕ, List, map, string_bytes, IfOk};
+ghost use Rattle.row.specs.Cells.{datum_of};
+ghost use Rattle.model.specs.Entries.{change_of};
 ghost use Rattle.protocol.specs.Events as protocol;
+ghost use Rattle.protocol.specs.Events.{write};
 ghost use Rattle.schedule.specs.Codes.{event_of};
+ghost use Rattle.script.specs.Columns.{kind_of_key};
+ghost use Rattle.script.specs.Values.{IsRead};
 ghost use Rattle.schedule_lines.specs.Asks as ask;
-ghost use Rattle.schedule_lines.specs.Asks.{ask_of};
+ghost use Rattle.schedule_lines.specs.Asks.{ask_of, called_by, write_of};
 ghost use Rattle.schedule_lines.specs.Events.{IsEvent, AreEvents};
 ghost use Rattle.schedule_lines.specs.Schedules.{numbered};
 
-use crate::event_line::EventLine;
+use crate::event_line::{CallWords, EntryWords, EventLine};
 use crate::reader::Line;
 use model::entry::Entry;
 use plan::plan::Plan;
+use row::value::Value;
 use schedule::event::Event;
 use script::cell::value_of;
 use script::columns::{kind_of_key, kind_of_stage_key, kind_of_table, row_of};
@@ -28,7 +34,7 @@ pub fn events_of(alloc: Global, plan: &Plan, lines: Vec<Line>) -> Result<Vec<Eve
 {
     let mut events = Vec::new(alloc);
     for line in lines {
-        events.push(event_of(alloc, plan, line.event)?)?;
+        events.push(event_of(alloc, plan, line.command)?)?;
     }
     Ok(events)
 }
@@ -39,116 +45,65 @@ pub fn event_of(alloc: Global, plan: &Plan, line: EventLine) -> Result<Event, Al
     ensures { IfOk result (λ event. IsEvent plan.now (ask_of line) (event_of event)) }
 {
     match line {
-        EventLine::Insert {
-            session,
-            table,
-            cells,
-        } => insert(alloc, plan, session, table, cells),
-        EventLine::Update {
-            session,
-            table,
-            cells,
-        } => update(alloc, plan, session, table, cells),
-        EventLine::Delete {
-            session,
-            table,
-            key,
-        } => delete(alloc, plan, session, table, key),
-        EventLine::Try { session, view, key } => attempt(alloc, plan, session, view, key),
-        EventLine::Want { session, view, key } => want(alloc, plan, session, view, key),
-        EventLine::Fence { session } => Ok(Event::Fence { session }),
-        EventLine::Count { session, view } => Ok(Event::Count { session, view }),
+        EventLine::Call { session, call } => call_of(alloc, plan, session, call),
         EventLine::Deliver { edge } => deliver(alloc, plan, edge.as_str()),
         EventLine::EvictStage { key } => evict_stage(alloc, plan, key),
-        EventLine::EvictView { view, key } => evict_view(alloc, plan, view, key),
+        EventLine::EvictView { view, key } => {
+            let key = key_of(alloc, plan, view.as_str(), key)?;
+            Ok(Event::EvictView { view, key })
+        }
         EventLine::Stop { domain } => stop(alloc, plan, domain.as_str()),
         EventLine::Settle => Ok(Event::Settle),
     }
 }
 
-/// The row of the cells comes.
-fn insert(
-    alloc: Global,
-    plan: &Plan,
-    session: usize,
-    table: String,
-    cells: Vec<String>,
-) -> Result<Event, AllocError>
-    ensures { IfOk result (λ event. IsEvent plan.now (ask.insert session (string_bytes table)
-        (map string_bytes cells.items)) (event_of event)) }
+/// The event that a call of the session is.
+fn call_of(alloc: Global, plan: &Plan, session: usize, call: CallWords) -> Result<Event, AllocError>
+    ensures { IfOk result (λ event. IsEvent plan.now (called_by session call) (event_of event)) }
 {
-    let entry = Entry::Insert(row_of(alloc, plan, table.as_str(), cells)?);
-    Ok(Event::Write {
-        session,
-        table,
-        entry,
-    })
+    match call {
+        CallWords::Write { table, entry } => {
+            let entry = entry_of(alloc, plan, table.as_str(), entry)?;
+            Ok(Event::Write {
+                session,
+                table,
+                entry,
+            })
+        }
+        CallWords::Try { view, key } => {
+            let key = key_of(alloc, plan, view.as_str(), key)?;
+            Ok(Event::Try { session, view, key })
+        }
+        CallWords::Want { view, key } => {
+            let key = key_of(alloc, plan, view.as_str(), key)?;
+            Ok(Event::Want { session, view, key })
+        }
+        CallWords::Fence => Ok(Event::Fence { session }),
+        CallWords::Count { view } => Ok(Event::Count { session, view }),
+    }
 }
 
-/// The row of the cells comes in place of the row of its key.
-fn update(
-    alloc: Global,
-    plan: &Plan,
-    session: usize,
-    table: String,
-    cells: Vec<String>,
-) -> Result<Event, AllocError>
-    ensures { IfOk result (λ event. IsEvent plan.now (ask.update session (string_bytes table)
-        (map string_bytes cells.items)) (event_of event)) }
+/// The entry that the words are in the table of this name, whatever session writes it.
+fn entry_of(alloc: Global, plan: &Plan, table: &str, words: EntryWords) -> Result<Entry, AllocError>
+    ensures { IfOk result (λ entry. (session : ℕ) → IsEvent plan.now
+        (write_of session table.now words) (write session table.now (change_of entry))) }
 {
-    let entry = Entry::Update(row_of(alloc, plan, table.as_str(), cells)?);
-    Ok(Event::Write {
-        session,
-        table,
-        entry,
-    })
+    match words {
+        EntryWords::Insert(cells) => Ok(Entry::Insert(row_of(alloc, plan, table, cells)?)),
+        EntryWords::Update(cells) => Ok(Entry::Update(row_of(alloc, plan, table, cells)?)),
+        EntryWords::Delete(key) => {
+            let kind = kind_of_table(plan, table);
+            Ok(Entry::Delete(value_of(alloc, kind, key)?))
+        }
+    }
 }
 
-/// The row of the key goes.
-fn delete(
-    alloc: Global,
-    plan: &Plan,
-    session: usize,
-    table: String,
-    word: String,
-) -> Result<Event, AllocError>
-    ensures { IfOk result (λ event. IsEvent plan.now (ask.delete session (string_bytes table)
-        (string_bytes word)) (event_of event)) }
+/// The key that the word is in the view of this name.
+fn key_of(alloc: Global, plan: &Plan, view: &str, word: String) -> Result<Value, AllocError>
+    ensures { IfOk result (λ key. IsRead (kind_of_key plan.now view.now) (string_bytes word)
+        (datum_of key)) }
 {
-    let key = value_of(alloc, kind_of_table(plan, table.as_str()), word)?;
-    Ok(Event::Write {
-        session,
-        table,
-        entry: Entry::Delete(key),
-    })
-}
-
-fn attempt(
-    alloc: Global,
-    plan: &Plan,
-    session: usize,
-    view: String,
-    word: String,
-) -> Result<Event, AllocError>
-    ensures { IfOk result (λ event. IsEvent plan.now (ask.try session (string_bytes view)
-        (string_bytes word)) (event_of event)) }
-{
-    let key = value_of(alloc, kind_of_key(plan, view.as_str()), word)?;
-    Ok(Event::Try { session, view, key })
-}
-
-fn want(
-    alloc: Global,
-    plan: &Plan,
-    session: usize,
-    view: String,
-    word: String,
-) -> Result<Event, AllocError>
-    ensures { IfOk result (λ event. IsEvent plan.now (ask.want session (string_bytes view)
-        (string_bytes word)) (event_of event)) }
-{
-    let key = value_of(alloc, kind_of_key(plan, view.as_str()), word)?;
-    Ok(Event::Want { session, view, key })
+    value_of(alloc, kind_of_key(plan, view), word)
 }
 
 fn deliver(alloc: Global, plan: &Plan, edge: &str) -> Result<Event, AllocError>
@@ -164,14 +119,6 @@ fn evict_stage(alloc: Global, plan: &Plan, word: String) -> Result<Event, AllocE
 {
     let key = value_of(alloc, kind_of_stage_key(plan), word)?;
     Ok(Event::EvictStage { key })
-}
-
-fn evict_view(alloc: Global, plan: &Plan, view: String, word: String) -> Result<Event, AllocError>
-    ensures { IfOk result (λ event. IsEvent plan.now (ask.evict_view (string_bytes view)
-        (string_bytes word)) (event_of event)) }
-{
-    let key = value_of(alloc, kind_of_key(plan, view.as_str()), word)?;
-    Ok(Event::EvictView { view, key })
 }
 
 fn stop(alloc: Global, plan: &Plan, domain: &str) -> Result<Event, AllocError>

@@ -2,7 +2,7 @@
 use Rattle.std.proofs.Common.{◌≡◌, ℕ, ◌+◌, ◌<◌, inl, inr, List, [], ◌∷◌, ◌++◌, length, Option, Some, None, refl, ap, sym, subst, ◌∙◌, arith, append_assoc}
 use Rattle.std.proofs.lemmas.List.{append-nil, length-append}
 use Rattle.script.specs.Words.{IsLine}
-use Rattle.script.specs.Scripts.{IsComment, Says, Numbered, call_at, IsScript, IsFault, IsFirstFault}
+use Rattle.script.specs.Scripts.{IsComment, Says, Numbered, call_at, AreOnlyCalls, HasFault, IsScript, IsFault, IsFirstFault}
 use Rattle.script.proofs.Scan.{line_once}
 
 -- what words ask for
@@ -65,12 +65,16 @@ module _ {A : Type 0} (Asks : List (List ℕ) → A → Type 0) where
       let rest : x.1 ≡ y.1 = script_once apart ls (k + 1) x.1 y.1 x.3 y.3 in
       x.4 ∙ (ap (λ s. call_at k s ++ x.1) said ∙ (ap (λ r. call_at k y.0 ++ r) rest ∙ sym y.4))
 
+  -- calls that lines ask for are the only ones
+  pub only_calls : IsApart → (lines : List (List ℕ)) (calls : List (Numbered A)) → IsScript Asks 1 lines calls → AreOnlyCalls Asks lines calls
+  only_calls apart lines calls is = record { are = is; only = λ others other. script_once apart lines 1 others calls other is }
+
   -- lines with a fault are none
   fault_within : (front : List (List ℕ)) (k : ℕ) (line : List ℕ) (more : List (List ℕ)) (calls : List (Numbered A)) → IsFault Asks line → IsScript Asks k (front ++ line ∷ more) calls → ⊥
   fault_within [] k line more calls fault is = fault is.0 is.2
   fault_within (l ∷ ls) k line more calls fault is = fault_within ls (k + 1) line more is.1 fault is.3
 
-  pub fault_none : (lines : List (List ℕ)) (number : ℕ) (calls : List (Numbered A)) → IsFirstFault Asks lines number → ¬ IsScript Asks 1 lines calls
+  fault_none : (lines : List (List ℕ)) (number : ℕ) (calls : List (Numbered A)) → IsFirstFault Asks lines number → ¬ IsScript Asks 1 lines calls
   fault_none lines number calls f is = fault_within f.0 1 f.1 f.2 calls f.7 (subst (λ x. IsScript Asks 1 x calls) f.4 is)
 
   -- the lines in front of a text are those calls
@@ -101,8 +105,9 @@ module _ {A : Type 0} (Asks : List (List ℕ) → A → Type 0) where
       let split : lines ≡ r.front = r.split ∙ (ap (λ x. r.front ++ x) done ∙ append-nil r.front) in
       subst (λ x. IsScript Asks 1 x calls) (sym split) r.read
 
-  pub read_fault : (lines rest more : List (List ℕ)) (line : List ℕ) (taken number : ℕ) (calls : List (Numbered A)) → ReadUpTo lines rest taken calls → rest ≡ line ∷ more → number ≡ taken + 1 → IsFault Asks line → IsFirstFault Asks lines number
+  pub read_fault : (lines rest more : List (List ℕ)) (line : List ℕ) (taken number : ℕ) (calls : List (Numbered A)) → ReadUpTo lines rest taken calls → rest ≡ line ∷ more → number ≡ taken + 1 → IsFault Asks line → HasFault Asks lines number
   read_fault lines rest more line taken number calls r cut step fault =
       let counted = r.counted in
       let at : number ≡ length r.front + 1 = omega arith in
-      (r.front, line, more, calls, r.split ∙ ap (λ x. r.front ++ x) cut, at, r.read, fault)
+      let first : IsFirstFault Asks lines number = (r.front, line, more, calls, r.split ∙ ap (λ x. r.front ++ x) cut, at, r.read, fault) in
+      record { first = first; none = λ others is. fault_none lines number others first is }

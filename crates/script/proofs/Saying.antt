@@ -1,5 +1,5 @@
 -- What the words of a command ask for is determined.
-use Rattle.std.proofs.Common.{◌≡◌, ◌==◌, cond, ℕ, ◌+◌, ◌<◌, List, [], ◌∷◌, length, ap, sym, ◌∙◌, arith}
+use Rattle.std.proofs.Common.{◌≡◌, ◌==◌, cond, ℕ, List, [], ◌∷◌, ap, sym, ◌∙◌, arith}
 use Rattle.script.specs.Commands.{Action, insert, update, delete, fence, try, read, closing, evict_stage, evict_view, count, Asks}
 use Rattle.script.proofs.Reading.{IsApart}
 

@@ -4,7 +4,6 @@ use Rattle.std.specs.List.{list_all}
 use Rattle.row.specs.declared.refused.Refused.{Refused}
 use Rattle.row.specs.declared.refused.Refused.TheVariants as refused
 use Rattle.script.specs.Words.{IsLine}
-use Rattle.script.specs.Commands.{Action, action_of}
 use Rattle.script.specs.declared.script.Call.{Call}
 use Rattle.script.specs.declared.script.ScriptError.{ScriptError}
 use Rattle.script.specs.declared.script.ScriptError.TheVariants as error
@@ -38,9 +37,9 @@ pub record Numbered (A : Type 0) : Type 0 where
   pub line : ℕ
   pub action : A
 
--- the program's call as such
-abbrev pub numbered : Call → Numbered Action
-numbered call = record { line = call.line; action = action_of call.command }
+-- the program's call as such, by what its command asks for
+abbrev pub numbered : {C A : Type 0} → (C → A) → Call C → Numbered A
+numbered asked call = record { line = call.line; action = asked call.command }
 
 -- what the line with that number asks for, if it is not skipped
 abbrev pub call_at : {A : Type 0} → ℕ → Option A → List (Numbered A)
@@ -66,6 +65,16 @@ module _ {A : Type 0} (Asks : List (List ℕ) → A → Type 0) where
   -- the line with that number is at fault, and no line in front of it is
   abbrev pub IsFirstFault : List (List ℕ) → ℕ → Type 0
   IsFirstFault lines number = (front : List (List ℕ)) × (line : List ℕ) × (more : List (List ℕ)) × (calls : List (Numbered A)) × (lines ≡ front ++ line ∷ more) × (number ≡ length front + 1) × IsScript 1 front calls × IsFault line
+
+  -- the lines ask for these things, and for no others
+  pub record AreOnlyCalls (lines : List (List ℕ)) (calls : List (Numbered A)) : Type 0 where
+    pub are : IsScript 1 lines calls
+    pub only : (others : List (Numbered A)) → IsScript 1 lines others → others ≡ calls
+
+  -- the line with that number is the first at fault, and so the lines ask for no list of things
+  pub record HasFault (lines : List (List ℕ)) (number : ℕ) : Type 0 where
+    pub first : IsFirstFault lines number
+    pub none : (calls : List (Numbered A)) → ¬ IsScript 1 lines calls
 
 -- the refusal that users see
 abbrev pub refusal_of : ScriptError → Refused

@@ -1,5 +1,5 @@
 //! The words of a call as a row or a key: each is read by its column.
-ghost use Rattle.std.specs.Prelude.{◌≡◌, ◌<◌, List, length, map, string_bytes, IfOk};
+ghost use Rattle.std.specs.Prelude.{◌≡◌, ◌<◌, length, map, string_bytes, IfOk};
 ghost use Rattle.std.specs.Option.{ForSome};
 ghost use Rattle.row.specs.Cells.{Cells};
 ghost use Rattle.plan.specs.Layouts.{table_named};

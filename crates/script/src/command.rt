@@ -2,6 +2,9 @@
 ghost use Rattle.std.specs.Prelude.{◌≡◌, ◌≢◌, ℕ, List, [], ◌∷◌, ◌<◌, length, map, string_bytes, codes, IfSome, IsNone};
 ghost use Rattle.script.specs.Commands.{Action, action_of, Asks};
 
+use crate::reader::Form;
+use std::alloc::{AllocError, Global};
+
 /// What a line of a script asks for.
 #[derive(PartialEq, Eq, Debug, Drop)]
 pub enum Command {
@@ -57,6 +60,18 @@ impl Command {
             "count" => only_name(words).map(|view| Command::Count { view }),
             _ => None,
         }
+    }
+}
+
+impl Form for Command {
+    ghost Asked = { Action };
+
+    ghost asked = { action_of };
+
+    ghost asks = { Asks };
+
+    fn of_words(_alloc: Global, words: Vec<String>) -> Result<Option<Command>, AllocError> {
+        Ok(Command::of(words))
     }
 }
 

@@ -4,5 +4,6 @@
 pub mod cell;
 pub mod columns;
 pub mod command;
+pub mod reader;
 pub mod script;
 pub mod words;
