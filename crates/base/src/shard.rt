@@ -1,5 +1,5 @@
 //! The rows of one shard of one table, by their keys.
-ghost use Rattle.std.specs.Prelude.{◌≡◌, ◌≢◌, ◌+◌, ◌++◌, ◌∷◌, [], List, filter, ◌<◌, ◌↔◌, true, false, if◌then◌else◌, IsTrue, IsOk, OnOk, IfOk, IfErr, IfSome, OnErr, IsOkUnless, Some, None, is_some, length};
+ghost use Rattle.std.specs.Prelude.{◌≡◌, ◌≢◌, ◌+◌, ◌++◌, ◌∷◌, [], List, filter, ◌<◌, ◌↔◌, true, false, IsTrue, IsOk, OnOk, IfOk, IfErr, IfSome, OnErr, IsOkUnless, Some, None, is_some, length};
 ghost use Rattle.std.specs.List.Sorted.{IsPermutation};
 ghost use Rattle.std.specs.HashMap.{get, spare, IsUnique};
 ghost use Rattle.row.specs.Bags.{IsAscending};
@@ -310,32 +310,9 @@ impl BaseShard {
         ensures front { IfOk result (λ v. (front : List Change) → IsAt self.now front → v.items
             ≡ found column (datum_of value.now) part (rows_of self.now.key front)) }
     {
-        match self.index(column) {
-            Some(rows) => copies_in(alloc, rows.rows_of(value), part),
-            None => self.scan(alloc, column, value, part),
+        if let Some(rows) = self.index(column) {
+            return copies_in(alloc, rows.rows_of(value), part);
         }
-    }
-
-    /// The rows by the column, where they are found by it.
-    fn index(&self, column: usize) -> Option<&Grouped>
-        ensures found { IfSome result (λ g. (g.now.column ≡ column) × IsOf g.now self.now.rows) }
-        ensures in_order { IfSome result (λ g. IsAscending row_cmp g.now.rows) }
-    {
-        ready_by(&self.indexes, column)
-    }
-
-    /// What `lookup` finds, by a look at each row.
-    fn scan(
-        &self,
-        alloc: Global,
-        column: usize,
-        value: &Value,
-        part: Part,
-    ) -> Result<Vec<Row>, AllocError>
-        requires { part.shards ≢ 0 }
-        ensures { IfOk result (λ v. v.items
-            ≡ found column (datum_of value.now) part self.now.rows) }
-    {
         let mut found = Vec::new(alloc);
         for row in self.rows.values() {
             if part.has(row) && row.has(column, value) {
@@ -344,6 +321,14 @@ impl BaseShard {
         }
         found.sort()?;
         Ok(found)
+    }
+
+    /// The rows by the column, where they are found by it.
+    fn index(&self, column: usize) -> Option<&Grouped>
+        ensures found { IfSome result (λ g. (g.now.column ≡ column) × IsOf g.now self.now.rows) }
+        ensures in_order { IfSome result (λ g. IsAscending row_cmp g.now.rows) }
+    {
+        ready_by(&self.indexes, column)
     }
 
     /// Room for the entry, so that `commit` takes no memory. Only an Insert needs any: one more

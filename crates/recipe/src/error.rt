@@ -21,6 +21,27 @@ pub enum Part {
     View(usize),
 }
 
+impl Part {
+    /// A field of the part.
+    pub(crate) fn field(self, field: &'static str) -> Place {
+        Place { part: self, field }
+    }
+}
+
+/// A field of a part.
+#[derive(Clone, Copy)]
+pub(crate) struct Place {
+    part: Part,
+    field: &'static str,
+}
+
+impl Place {
+    /// The place of a fault there.
+    pub(crate) fn expects(self, expected: &'static str) -> Spot {
+        Spot::new(self.part, self.field, expected)
+    }
+}
+
 /// The place of a fault: a part, a field of it, and what is expected there.
 #[derive(Clone, Copy, Debug)]
 pub struct Spot {

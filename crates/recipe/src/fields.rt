@@ -7,7 +7,7 @@ ghost use Rattle.recipe.specs.Errors.{Gives};
 ghost use Rattle.recipe.specs.Words.{natural};
 ghost use Rattle.recipe.specs.Fields.{text_in, whole_in, list_in, table_in, needed, optional, paired};
 
-use crate::error::{Part, PlanError, Spot};
+use crate::error::{Part, Place, PlanError};
 use toml::value::Array;
 use toml::{Table, Value};
 
@@ -20,27 +20,23 @@ const A_LIST: &str = "a list";
 const A_TABLE: &str = "a table of fields";
 
 /// The text that the value is.
-pub(crate) fn text_in<'a>(
-    value: &'a Value,
-    part: Part,
-    field: &'static str,
-) -> Result<&'a str, PlanError>
+pub(crate) fn text_in(value: &Value, at: Place) -> Result<&str, PlanError>
     ensures { Gives (λ s. s.now) result (text_in (view value.now)) }
 {
     match value.as_str() {
         Some(text) => Ok(text),
-        None => Err(PlanError::TypeMismatch(Spot::new(part, field, A_TEXT))),
+        None => Err(PlanError::TypeMismatch(at.expects(A_TEXT))),
     }
 }
 
 /// The whole number that the value is; 0 for a negative one.
 #[tactic(auto, unfolding(crate::specs::Fields::whole_in))]
-pub(crate) fn whole_in(value: &Value, part: Part, field: &'static str) -> Result<usize, PlanError>
+pub(crate) fn whole_in(value: &Value, at: Place) -> Result<usize, PlanError>
     ensures { Gives (λ n. n) result (whole_in (view value.now)) }
 {
     match value.as_integer() {
         Some(number) => Ok(natural(number)),
-        None => Err(PlanError::TypeMismatch(Spot::new(part, field, A_WHOLE))),
+        None => Err(PlanError::TypeMismatch(at.expects(A_WHOLE))),
     }
 }
 
@@ -52,30 +48,22 @@ fn natural(number: i64) -> usize
 }
 
 /// The list that the value is.
-pub(crate) fn list_in<'a>(
-    value: &'a Value,
-    part: Part,
-    field: &'static str,
-) -> Result<&'a Array, PlanError>
+pub(crate) fn list_in(value: &Value, at: Place) -> Result<&Array, PlanError>
     ensures { Gives (λ v. array_view v.now) result (list_in (view value.now)) }
 {
     match value.as_array() {
         Some(list) => Ok(list),
-        None => Err(PlanError::TypeMismatch(Spot::new(part, field, A_LIST))),
+        None => Err(PlanError::TypeMismatch(at.expects(A_LIST))),
     }
 }
 
 /// The table that the value is.
-pub(crate) fn table_in<'a>(
-    value: &'a Value,
-    part: Part,
-    field: &'static str,
-) -> Result<&'a Table, PlanError>
+pub(crate) fn table_in(value: &Value, at: Place) -> Result<&Table, PlanError>
     ensures { Gives (λ m. table_view m.now) result (table_in (view value.now)) }
 {
     match value.as_table() {
         Some(table) => Ok(table),
-        None => Err(PlanError::TypeMismatch(Spot::new(part, field, A_TABLE))),
+        None => Err(PlanError::TypeMismatch(at.expects(A_TABLE))),
     }
 }
 
@@ -88,8 +76,8 @@ pub(crate) fn text<'a>(
     ensures { Gives (λ s. s.now) result (needed text_in (get field.now (view member.now))) }
 {
     match member.get(field) {
-        Some(value) => text_in(value, part, field),
-        None => Err(PlanError::MissingField(Spot::new(part, field, A_TEXT))),
+        Some(value) => text_in(value, part.field(field)),
+        None => Err(PlanError::MissingField(part.field(field).expects(A_TEXT))),
     }
 }
 
@@ -98,8 +86,8 @@ pub(crate) fn whole(member: &Value, part: Part, field: &'static str) -> Result<u
     ensures { Gives (λ n. n) result (needed whole_in (get field.now (view member.now))) }
 {
     match member.get(field) {
-        Some(value) => whole_in(value, part, field),
-        None => Err(PlanError::MissingField(Spot::new(part, field, A_WHOLE))),
+        Some(value) => whole_in(value, part.field(field)),
+        None => Err(PlanError::MissingField(part.field(field).expects(A_WHOLE))),
     }
 }
 
@@ -113,7 +101,7 @@ pub(crate) fn whole_or(
     ensures { Gives (λ n. n) result (optional default whole_in (get field.now (view member.now))) }
 {
     match member.get(field) {
-        Some(value) => whole_in(value, part, field),
+        Some(value) => whole_in(value, part.field(field)),
         None => Ok(default),
     }
 }
@@ -129,9 +117,9 @@ pub(crate) fn paired<'a>(
         (get partner.now (view member.now))) }
 {
     match member.get(field) {
-        Some(value) => Ok(Some(text_in(value, part, field)?)),
+        Some(value) => Ok(Some(text_in(value, part.field(field))?)),
         None => match member.get(partner) {
-            Some(_) => Err(PlanError::MissingField(Spot::new(part, field, A_TEXT))),
+            Some(_) => Err(PlanError::MissingField(part.field(field).expects(A_TEXT))),
             None => Ok(None),
         },
     }

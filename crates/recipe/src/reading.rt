@@ -1,6 +1,6 @@
 //! Reading the parts of a document: the fields pass, which makes a draft.
 ghost use Rattle.std.specs.Prelude.{◌≡◌, codes};
-ghost use Rattle.toml.specs.View.{view, items_view, table_view};
+ghost use Rattle.toml.specs.View.{view, items_view};
 ghost use Rattle.toml.specs.Data.{get};
 ghost use Rattle.recipe.specs.Errors.{Gives};
 ghost use Rattle.recipe.specs.Words.{side_columns, right_side_columns};
@@ -43,7 +43,7 @@ fn column_of(alloc: Global, text: &str, part: Part) -> Result<Column, PlanError>
 fn column_at(alloc: Global, value: &Value, part: Part) -> Result<Column, PlanError>
     ensures { Gives (λ c. c) result (column_at (view value.now)) }
 {
-    let text = text_in(value, part, "columns")?;
+    let text = text_in(value, part.field("columns"))?;
     column_of(alloc, text, part)
 }
 
@@ -63,7 +63,7 @@ fn columns_of(alloc: Global, list: &[Value], part: Part) -> Result<Vec<Column>, 
 fn columns_at(alloc: Global, value: &Value, part: Part) -> Result<Vec<Column>, PlanError>
     ensures { Gives (λ v. v.items) result (columns_at (view value.now)) }
 {
-    let list = list_in(value, part, "columns")?;
+    let list = list_in(value, part.field("columns"))?;
     columns_of(alloc, list, part)
 }
 
@@ -72,7 +72,7 @@ fn columns_at(alloc: Global, value: &Value, part: Part) -> Result<Vec<Column>, P
 fn table_at(alloc: Global, value: &Value, part: Part) -> Result<Table, PlanError>
     ensures { Gives (λ t. t) result (table_at (view value.now)) }
 {
-    let members = table_in(value, part, "table")?;
+    let members = table_in(value, part.field("table"))?;
     let name = text(value, part, "name")?;
     let shards = whole(value, part, "shards")?;
     let key = text(value, part, "key")?;
@@ -123,7 +123,7 @@ fn tables(alloc: Global, document: &Value) -> Result<Vec<Table>, PlanError>
 fn tables_at(alloc: Global, value: &Value) -> Result<Vec<Table>, PlanError>
     ensures { Gives (λ v. v.items) result (tables_at (view value.now)) }
 {
-    let list = list_in(value, Part::Recipe, "table")?;
+    let list = list_in(value, Part::Recipe.field("table"))?;
     tables_of(alloc, list)
 }
 
@@ -138,7 +138,7 @@ fn view_at(
 ) -> Result<ViewPlan, PlanError>
     ensures { Gives (λ v. v) result (view_at lefts.now rights.now (view value.now)) }
 {
-    let members = table_in(value, part, "view")?;
+    let members = table_in(value, part.field("view"))?;
     let name = text(value, part, "name")?;
     let key = text(value, part, "key")?;
     let shards = whole(value, part, "shards")?;
@@ -178,7 +178,7 @@ fn views_at(
 ) -> Result<Vec<ViewPlan>, PlanError>
     ensures { Gives (λ v. v.items) result (views_at lefts.now rights.now (view value.now)) }
 {
-    let list = list_in(value, Part::Recipe, "view")?;
+    let list = list_in(value, Part::Recipe.field("view"))?;
     views_of(alloc, lefts, rights, list)
 }
 
@@ -222,7 +222,7 @@ fn right_side_columns<'a>(tables: &'a [Table], side: &Option<Side>) -> &'a [Colu
 pub(crate) fn draft_at(alloc: Global, document: &Value) -> Result<Draft, PlanError>
     ensures { Gives (λ d. d) result (draft_at (view document.now)) }
 {
-    let members = table_in(document, Part::Recipe, "recipe")?;
+    let members = table_in(document, Part::Recipe.field("recipe"))?;
     let tables = tables(alloc, document)?;
     let stage = stage(alloc, &tables, document)?;
     let lefts = side_columns(&tables, &stage.left);

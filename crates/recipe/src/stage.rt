@@ -37,7 +37,7 @@ const LISTED: &str = "only fields that recipes have";
 fn op_at(value: &Value, part: Part) -> Result<Op, PlanError>
     ensures { Gives (λ o. o) result (op_at (view value.now)) }
 {
-    let word = text_in(value, part, "op")?;
+    let word = text_in(value, part.field("op"))?;
     match op_of(word) {
         Some(op) => Ok(op),
         None => Err(PlanError::TypeMismatch(Spot::new(part, "op", AN_OP))),
@@ -87,7 +87,7 @@ fn condition_at(
 ) -> Result<Condition, PlanError>
     ensures { Gives (λ c. c) result (condition_at columns.now (view member.now)) }
 {
-    let members = table_in(member, part, "condition")?;
+    let members = table_in(member, part.field("condition"))?;
     let column = text(member, part, "column")?;
     let op = op(member, part)?;
     let value = value(alloc, member, part)?;
@@ -146,7 +146,7 @@ fn conditions_at(
 ) -> Result<Vec<Condition>, PlanError>
     ensures { Gives (λ v. v.items) result (conditions_at columns.now (view value.now)) }
 {
-    let list = list_in(value, Part::Stage, way.field())?;
+    let list = list_in(value, Part::Stage.field(way.field()))?;
     conditions_of(alloc, columns, list, way)
 }
 
@@ -189,7 +189,7 @@ fn right_where(
 fn word_at(value: &Value) -> Result<Option<Word>, PlanError>
     ensures { Gives (λ w. w) result (word_at (view value.now)) }
 {
-    let text = text_in(value, Part::Stage, "aggregate")?;
+    let text = text_in(value, Part::Stage.field("aggregate"))?;
     match word_of(text) {
         Some(word) => Ok(Some(word)),
         None => Err(PlanError::TypeMismatch(Spot::new(Part::Stage, "aggregate", A_WORD))),
@@ -225,7 +225,7 @@ fn aggregate_of(
             A_SUM,
         ))),
         (Some(Word::Sum), Some(value)) => {
-            let name = text_in(value, Part::Stage, "sum")?;
+            let name = text_in(value, Part::Stage.field("sum"))?;
             Ok(Some(Aggregate::Sum(column_place(columns, name))))
         }
         (_, Some(_)) => Err(PlanError::TypeMismatch(Spot::new(Part::Stage, "sum", A_SUM))),
@@ -312,7 +312,7 @@ impl Model for StageParts {
 fn stage_at(alloc: Global, tables: &[Table], stage: &Value) -> Result<StageParts, PlanError>
     ensures { Gives (λ s. s) result (stage_at tables.now (view stage.now)) }
 {
-    let members = table_in(stage, Part::Stage, "stage")?;
+    let members = table_in(stage, Part::Stage.field("stage"))?;
     let shards = whole(stage, Part::Stage, "shards")?;
     let left = text(stage, Part::Stage, "left")?;
     let left_key = text(stage, Part::Stage, "left_key")?;

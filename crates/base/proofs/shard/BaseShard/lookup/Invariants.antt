@@ -1,7 +1,7 @@
 use Rattle.std.proofs.Common.{◌≡◌, ◌++◌}
 use Rattle.row.specs.Cells.{datum_of}
 use Rattle.base.proofs.Finds.{wanted}
-use Rattle.base.proofs.shard.BaseShard.scan.Given as goal
+use Rattle.base.proofs.shard.BaseShard.lookup.Given as goal
 
 -- what was found, and what the rest has, are what all rows have
 abbrev pub invariant-loop-row : goal.invariant-loop-row
