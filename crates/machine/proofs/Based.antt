@@ -10,15 +10,15 @@ use Rattle.protocol.specs.BaseSteps.{step}
 use Rattle.protocol.specs.Edges.{queue}
 use Rattle.protocol.specs.Events.{delivered, idle}
 use Rattle.protocol.specs.Worlds.{Node, World}
-use Rattle.protocol.specs.WorldSteps.{Did, says, base_did, base_takes, base_ask_came, is_up}
+use Rattle.protocol.specs.WorldSteps.{Did, base_did, base_takes, base_ask_came, is_up}
 use Rattle.protocol.proofs.Lists.{map_set, map_get, map_same}
 use Rattle.base_domain.specs.Domains.{Domain as BaseDomain}
 use Rattle.base_domain.specs.Received.{base_at, IsFor}
 use Rattle.schedule.specs.Taken.{IsTaken}
-use Rattle.machine.specs.Held.{Held, Are, AreQueued, IsPlaced, IsAt, IsDone, IsBaseOf, IsStageAsk, KnowsOwn, world_of, base_node}
+use Rattle.machine.specs.Held.{Held, Are, IsPlaced, IsAt, IsDone, IsBaseOf, IsStageAsk, KnowsOwn, world_of, base_node}
 use Rattle.machine.specs.Turned.{IsBaseGiven, IsBaseTurn}
-use Rattle.machine.proofs.Queued.{first_queued, queued_taken}
-use Rattle.machine.proofs.Steps.{set_are, reasked, told}
+use Rattle.machine.proofs.Queued.{first_queued, still_queued}
+use Rattle.machine.proofs.Steps.{none_comes, one_comes, reasked, rebased, set_are}
 
 abbrev node : Base → Bool → Node Base
 node x t = record { is = x; runs = t }
@@ -55,17 +55,8 @@ module _ {F : Type 0} (log : F → LogView) (authors : F → List Author) where
       → IsBaseTurn log authors h.plan b d h.to_stage new ts → IsPlaced log authors (with_base h b new ts)
   quiet_placed h b old new ts d p at same t =
       let nodes : map (base_node log authors) (slice_set h.bases b new) ≡ map (base_node log authors) h.bases = map_same (base_node log authors) h.bases b old new at same in
-      record {
-        bases = set_are (IsBaseOf log authors h.plan) (base_count h.plan) h.bases b new p.bases t.is;
-        to_stage = t.queued p.to_stage;
-        sessions = subst (λ ns. Are (KnowsOwn ns) most_sessions h.sessions) (sym nodes) p.sessions;
-        good = p.good;
-        stages = p.stages;
-        views = p.views;
-        to_view = p.to_view;
-        from_view = p.from_view;
-        to_base = p.to_base;
-      }
+      let here = set_are (IsBaseOf log authors h.plan) (base_count h.plan) h.bases b new p.bases t.is in
+      rebased log authors h p (slice_set h.bases b new) here ts (t.queued p.to_stage) h.sessions (subst (λ ns. Are (KnowsOwn ns) most_sessions h.sessions) (sym nodes) p.sessions)
 
   -- ---- a message that leaves the log: a request or a marker
   module _ (h : Held F) (b : ℕ) (m : ToBase) (p : IsPlaced log authors h) where
@@ -90,38 +81,30 @@ module _ {F : Type 0} (log : F → LogView) (authors : F → List Author) where
     abbrev ask_comes : Did
     ask_comes = base_ask_came (world_of log authors h) s j (queue h.to_base j s)
 
-    pub ask_still : (tb : List (List (List Ask))) → queue h.to_base j s ≡ [] → tb ≡ h.to_base → IsDone log authors ask_comes idle (record h { to_base = tb })
-    ask_still tb q same =
-        subst (λ x. IsDone log authors ask_comes idle (record h { to_base = x })) (sym same)
-        (subst (λ x. IsDone log authors (base_ask_came (world_of log authors h) s j x) idle h) (sym q) (record { world = refl; reply = refl; placed = p }))
+    abbrev ask_off : List (List (List Ask)) → Held F
+    ask_off tb = record h { to_base = tb }
+
+    pub ask_still : (tb : List (List (List Ask))) → queue h.to_base j s ≡ [] → tb ≡ h.to_base → IsDone log authors ask_comes idle (ask_off tb)
+    ask_still tb = none_comes log authors h.to_base tb j s ask_off (base_ask_came (world_of log authors h) s j) ask_comes refl p refl
 
     module _ (a : Ask) (tb : List (List (List Ask))) (t : IsTaken h.to_base j s a tb) where
-      abbrev ask_off : Held F
-      ask_off = record h { to_base = tb }
-
-      pub ask_placed : IsPlaced log authors ask_off
-      ask_placed = reasked log authors h p tb (subst (AreQueued (IsStageAsk h.plan)) (sym t.is) (queued_taken (IsStageAsk h.plan) h.to_base j s a t.rest t.was p.to_base))
+      pub ask_placed : IsPlaced log authors (ask_off tb)
+      ask_placed = reasked log authors h p tb (still_queued (IsStageAsk h.plan) h.to_base tb j s a t p.to_base)
 
       -- it is for each base shard of the plan
       pub ask_for : (b : ℕ) (d : BaseDomain F) → slice_get h.bases b ≡ Some d → IsFor (log d.front) most_sessions (request s a)
       ask_for b d at = subst (λ q. s < q.stages) (sym (p.bases.each b d at).plan) (first_queued (IsStageAsk h.plan) h.to_base j s a t.rest t.was p.to_base)
 
       module _ (b : ℕ) (own : b ≡ source_at h.plan j) where
-        abbrev ask_given : World
-        ask_given = base_takes (world_of log authors ask_off) b (slice_get (map (base_node log authors) h.bases) b) (request s a)
+        abbrev ask_given : ℕ → List (List (List Ask)) → World
+        ask_given c q = base_takes (world_of log authors (ask_off q)) c (slice_get (map (base_node log authors) h.bases) c) (request s a)
 
-        ask_is : ask_comes ≡ says ask_given delivered
-        ask_is =
-            let w = world_of log authors h in
-            ap (base_ask_came w s j) t.was
-            ∙ (ap (λ q. says (base_takes (record w { to_base = q }) (source_at h.plan j) (slice_get (map (base_node log authors) h.bases) (source_at h.plan j)) (request s a)) delivered) (sym t.is)
-            ∙ ap (λ c. says (base_takes (world_of log authors ask_off) c (slice_get (map (base_node log authors) h.bases) c) (request s a)) delivered) (sym own))
+        ask_done : (new : Held F) → IsAt log authors (ask_given b tb) new → IsDone log authors ask_comes delivered new
+        ask_done new at =
+            one_comes log authors h.to_base tb j s ask_off (base_ask_came (world_of log authors h) s j) ask_comes refl a t (ask_given (source_at h.plan j)) refl new (subst (λ c. IsAt log authors (ask_given c tb) new) own at)
 
-        ask_done : (new : Held F) → IsAt log authors ask_given new → IsDone log authors ask_comes delivered new
-        ask_done new at = subst (λ d. IsDone log authors d delivered new) (sym ask_is) (told log authors ask_given delivered new at)
+        pub ask_passed : (v : Option Verdict) (new : Held F) → IsBaseGiven log authors b (request s a) v (ask_off tb) new → IsDone log authors ask_comes delivered new
+        ask_passed v new g = ask_done new (base_passed (ask_off tb) b (request s a) ask_placed (λ x. refl) v new g)
 
-        pub ask_passed : (v : Option Verdict) (new : Held F) → IsBaseGiven log authors b (request s a) v ask_off new → IsDone log authors ask_comes delivered new
-        ask_passed v new g = ask_done new (base_passed ask_off b (request s a) ask_placed (λ x. refl) v new g)
-
-        pub ask_lost : is_up (slice_get (map (base_node log authors) h.bases) b) ≡ false → IsDone log authors ask_comes delivered ask_off
-        ask_lost down = ask_done ask_off (base_lost ask_off b (request s a) ask_placed down)
+        pub ask_lost : is_up (slice_get (map (base_node log authors) h.bases) b) ≡ false → IsDone log authors ask_comes delivered (ask_off tb)
+        ask_lost down = ask_done (ask_off tb) (base_lost (ask_off tb) b (request s a) ask_placed down)

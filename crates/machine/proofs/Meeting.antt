@@ -31,6 +31,9 @@ there_at [] i d lt = absurd (omega (arith, lt))
 there_at (x ∷ xs) zero d lt = refl
 there_at (x ∷ xs) (suc i) d lt = there_at xs i d (omega (arith, lt))
 
+pub got_at : {X : Type 0} (xs : List X) (i : ℕ) (x d : X) → i < length xs → x ≡ slice_index_or xs i d → slice_get xs i ≡ Some x
+got_at xs i x d lt is = there_at xs i d lt ∙ ap Some (sym is)
+
 pub set_or : {X : Type 0} (xs : List X) (i : ℕ) (x d : X) → i < length xs → slice_index_or (slice_set xs i x) i d ≡ x
 set_or [] i x d lt = absurd (omega (arith, lt))
 set_or (y ∷ xs) zero x d lt = refl
@@ -52,6 +55,10 @@ seen_up f xs ys i b is same = sym (is ∙ ap (λ zs. is_up (slice_get (map f zs)
 
 pub seen_there : {D : Type 0} (xs ys : List D) (i : ℕ) → i < length xs → xs ≡ ys → i < length ys
 seen_there xs ys i lt same = subst (λ zs. i < length zs) same lt
+
+-- so does what was seen of a domain that runs
+pub seen : {D X : Type 0} (f : D → Node X) (xs ys : List D) (i : ℕ) → true ≡ is_up (slice_get (map f xs) i) → i < length xs → xs ≡ ys → (is_up (slice_get (map f ys) i) ≡ true) × (i < length ys)
+seen f xs ys i up lt same = (seen_up f xs ys i true up same, seen_there xs ys i lt same)
 
 -- a domain that is up runs
 pub up_runs : {D X : Type 0} (f : D → Node X) (xs : List D) (i : ℕ) (d : D) → slice_get xs i ≡ Some d → is_up (slice_get (map f xs) i) ≡ true → (f d).runs ≡ true

@@ -6,6 +6,7 @@ use Rattle.protocol.specs.Edges.{pushed, queue, with_queue}
 use Rattle.protocol.specs.Worlds.{no_queues}
 use Rattle.protocol.proofs.Lists.{map_set}
 use Rattle.protocol.proofs.Spots.{each_append}
+use Rattle.schedule.specs.Taken.{IsTaken}
 use Rattle.machine.specs.Held.{AreQueued}
 
 -- ---- one place changes
@@ -23,10 +24,14 @@ map_or f (x ∷ xs) zero d = refl
 map_or f (x ∷ xs) (suc i) d = map_or f xs i d
 
 -- ---- what holds of each message
-pub queued_taken : {X : Type 0} (Is : ℕ → ℕ → X → Type 0) (q : List (List (List X))) (r i : ℕ) (k : X) (rest : List X) → queue q r i ≡ k ∷ rest → AreQueued Is q → AreQueued Is (with_queue q r i rest)
+queued_taken : {X : Type 0} (Is : ℕ → ℕ → X → Type 0) (q : List (List (List X))) (r i : ℕ) (k : X) (rest : List X) → queue q r i ≡ k ∷ rest → AreQueued Is q → AreQueued Is (with_queue q r i rest)
 queued_taken Is q r i k rest e h =
     set_holds (λ r inbox. (j : ℕ) → Each (Is r j) (slice_index_or inbox j [])) [] q r (slice_set (slice_index_or q r []) i rest) h
     (set_holds (λ j xs. Each (Is r j) xs) [] (slice_index_or q r []) i rest (h r) (subst (Each (Is r i)) e (h r i)).1)
+
+-- of those that are left when one is taken off
+pub still_queued : {X : Type 0} (Is : ℕ → ℕ → X → Type 0) (old new : List (List (List X))) (r i : ℕ) (k : X) → IsTaken old r i k new → AreQueued Is old → AreQueued Is new
+still_queued Is old new r i k t h = subst (AreQueued Is) (sym t.is) (queued_taken Is old r i k t.rest t.was h)
 
 pub first_queued : {X : Type 0} (Is : ℕ → ℕ → X → Type 0) (q : List (List (List X))) (r i : ℕ) (k : X) (rest : List X) → queue q r i ≡ k ∷ rest → AreQueued Is q → Is r i k
 first_queued Is q r i k rest e h = (subst (Each (Is r i)) e (h r i)).0

@@ -19,8 +19,8 @@ use Rattle.protocol.proofs.Lists.{map_get}
 use Rattle.schedule.specs.Taken.{IsTaken}
 use Rattle.view_domain.specs.Codes.{GoesWith, IsFrom}
 use Rattle.view_domain.specs.Domains.{Domain as ViewDomain, view_of, lines_of}
-use Rattle.machine.specs.Held.{Held, IsWhole, IsPlaced, IsDone, IsSentBy, AreQueued, AgreeingAreOne, world_of, view_node, sent_in, runs}
-use Rattle.machine.proofs.Queued.{first_queued, queued_taken, map_queue, map_taken}
+use Rattle.machine.specs.Held.{Held, IsWhole, IsPlaced, IsDone, IsSentBy, AgreeingAreOne, world_of, view_node, sent_in, runs}
+use Rattle.machine.proofs.Queued.{first_queued, map_queue, map_taken, still_queued}
 use Rattle.machine.proofs.Meeting.{prefix_agree}
 use Rattle.machine.proofs.Steps.{remade}
 
@@ -66,7 +66,7 @@ module _ {F : Type 0} (log : F → LogView) (authors : F → List Author) where
 
   pub sent_placed : (h : Held F) (r s : ℕ) (x : StagePacketView) (tv : List (List (List StagePacketView))) → IsTaken h.to_view r s x tv → IsPlaced log authors h → IsPlaced log authors (off_stage h tv)
   sent_placed h r s x tv t p =
-      remade log authors h p h.stages p.stages h.views p.views h.to_stage p.to_stage tv (subst (AreQueued (IsSentBy h.plan)) (sym t.is) (queued_taken (IsSentBy h.plan) h.to_view r s x t.rest t.was p.to_view)) h.from_view p.from_view h.sessions p.sessions
+      remade log authors h p h.stages p.stages h.views p.views h.to_stage p.to_stage tv (still_queued (IsSentBy h.plan) h.to_view tv r s x t p.to_view) h.from_view p.from_view h.sessions p.sessions
 
   came_is : (h : Held F) (r s : ℕ) (x : StagePacketView) (tv : List (List (List StagePacketView))) → IsTaken h.to_view r s x tv
       → stage_came (world_of log authors h) s r (queue (sent_in h.to_view) r s) ≡ view_takes (world_of log authors (off_stage h tv)) r (slice_get (map view_node h.views) r) (packet s (sent_of x))

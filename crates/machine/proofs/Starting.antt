@@ -13,7 +13,7 @@ use Rattle.model.specs.Places.{base_count, sources}
 use Rattle.model.specs.Queries.{Line}
 use Rattle.packet.specs.Lines.{AreOf, IsOf, entries_of}
 use Rattle.packet.specs.Messages.{Ask, BasePacketView, StagePacketView}
-use Rattle.packet.specs.Readers.{Reader, readers, readers_of}
+use Rattle.packet.specs.Readers.{Reader, readers}
 use Rattle.packet.specs.declared.reader.Reader.{Reader as Code}
 use Rattle.packet.specs.Truth.{Pointwise, sent_of}
 use Rattle.packet.specs.declared.mode.Mode.TheVariants as mode
@@ -23,14 +23,13 @@ use Rattle.protocol.specs.Views.{View}
 use Rattle.protocol.specs.Worlds.{Node, start, first_base, first_right, first_stage, first_view, first_line, first_caller, no_queues}
 use Rattle.protocol.specs.WorldSteps.{own_in}
 use Rattle.protocol.proofs.Lists.{each_at, each_map, each_of, map_get}
-use Rattle.protocol.proofs.Owns.{each_flat}
-use Rattle.protocol.proofs.Spots.{each_range}
 use Rattle.protocol.proofs.Within.{sources_small}
 use Rattle.base_domain.specs.Domains.{Domain as BaseDomain}
 use Rattle.schedule.specs.Codes.{reader_in}
 use Rattle.schedule.specs.Sessions.{Session}
 use Rattle.stage_domain.specs.Domains.{Domain as StageDomain, IsNew as IsNewStage}
 use Rattle.view_domain.specs.Domains.{Domain as ViewDomain, lines_of}
+use Rattle.view_domain.proofs.Readers.{readers_there}
 use Rattle.machine.specs.Held.{Held, Are, AreQueued, IsPlaced, IsWhole, IsBaseOf, IsStageOf, IsViewOf, KnowsOwn, world_of, base_node, runs, stage_node, view_node, sent_in}
 use Rattle.machine.specs.Started.{AreFirst, AreNewStages, IsNewBase, first_log, first_logs, new_view, new_views, new_session, new_sessions}
 use Rattle.std.specs.Option.{option_map}
@@ -195,18 +194,6 @@ view_is p r = ap (view_over p r) (cut_is p)
 
 views_are : (p : Layout) → map view_node (new_views p) ≡ map (first_view p) (readers p)
 views_are p = map_both view_node (new_view p) (first_view p) (view_is p) (readers p)
-
-pub readers_there : (p : Layout) → Each (λ (r : Reader). r.view < length p.views) (readers p)
-readers_there p =
-    each_flat (λ (r : Reader). r.view < length p.views) (readers_of p) (range_with_len 0 (length p.views))
-    (each_range (λ i. Each (λ (r : Reader). r.view < length p.views) (readers_of p i)) 0 (length p.views) (λ k lt. of_view (0 + k) (omega (arith, lt))))
-  where
-    of_view : (i : ℕ) → i < length p.views → Each (λ (r : Reader). r.view < length p.views) (readers_of p i)
-    of_view i lt = all (range_with_len 0 _)
-      where
-        all : (js : List ℕ) → Each (λ (r : Reader). r.view < length p.views) (map (λ j. record { view = i; shard = j }) js)
-        all [] = tt
-        all (j ∷ js) = (lt, all js)
 
 views_placed : (p : Layout) → Are (IsViewOf p) (length (readers p)) (new_views p)
 views_placed p = record {

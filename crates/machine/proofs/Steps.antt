@@ -1,25 +1,27 @@
 -- What one turn of a stage shard makes of the world that all domains and queues are.
-use Rattle.std.proofs.Common.{true, false, cond, ◌≡◌, ℕ, ◌==◌, List, [], map, length, Option, Some, None, ◌⊎◌, inl, inr, slice_get, slice_set, refl, ap, sym, ◌∙◌, subst}
+use Rattle.std.proofs.Common.{true, false, cond, ◌≡◌, ℕ, ◌==◌, List, [], ◌∷◌, map, length, Option, Some, None, ◌⊎◌, inl, inr, slice_get, slice_set, refl, ap, sym, ◌∙◌, subst}
 use Rattle.model.specs.Fronts.{LogView}
 use Rattle.model.specs.Histories.{Author}
 use Rattle.packet.specs.Messages.{Ask, BasePacketView, StagePacketView, Sent}
-use Rattle.protocol.specs.Edges.{pushed, queue}
-use Rattle.protocol.specs.Stages.{Stage, ToStage, packet, request, Done}
+use Rattle.protocol.specs.Edges.{pushed, queue, with_queue}
+use Rattle.protocol.specs.Stages.{Stage, ToStage, Done}
 use Rattle.protocol.specs.StageSteps.{step}
 use Rattle.protocol.specs.Worlds.{Node, World}
-use Rattle.protocol.specs.WorldSteps.{Did, says, stage_did, stage_takes, base_came, ask_came, is_up}
+use Rattle.protocol.specs.WorldSteps.{Did, says, stage_did, stage_takes, is_up}
 use Rattle.protocol.specs.Events.{Reply, delivered, idle}
 use Rattle.protocol.proofs.Lists.{map_set, map_get, set_size, got}
 use Rattle.stage_domain.specs.Domains.{Domain as StageDomain, stage_of}
 use Rattle.stage_steps.specs.Shards.{IsFrom}
+use Rattle.base_domain.specs.Domains.{Domain as BaseDomain}
 use Rattle.model.specs.Legal.{most_sessions}
+use Rattle.model.specs.Places.{base_count}
 use Rattle.packet.specs.Readers.{readers}
 use Rattle.schedule.specs.Sessions.{Session}
 use Rattle.view_domain.specs.Domains.{Domain as ViewDomain}
-use Rattle.machine.specs.Held.{Held, Are, AreQueued, IsPlaced, IsAt, IsDone, IsStageOf, IsViewOf, IsSentBy, IsAsk, IsStageAsk, KnowsOwn, base_node, world_of, stage_node, sent_in, runs}
+use Rattle.machine.specs.Held.{Held, Are, AreQueued, IsPlaced, IsAt, IsDone, IsBaseOf, IsStageOf, IsViewOf, IsSentBy, IsAsk, IsStageAsk, KnowsOwn, base_node, world_of, stage_node, sent_in, runs}
 use Rattle.machine.specs.Turned.{IsStageTurn, IsGiven}
 use Rattle.schedule.specs.Taken.{IsTaken}
-use Rattle.machine.proofs.Queued.{queued_taken}
+use Rattle.machine.proofs.Queued.{still_queued}
 
 -- ---- one of them changes
 pub set_are : {X : Type 0} (Is : ℕ → X → Type 0) (n : ℕ) (xs : List X) (i : ℕ) (x : X) → Are Is n xs → Is i x → Are Is n (slice_set xs i x)
@@ -48,6 +50,12 @@ module _ {F : Type 0} (log : F → LogView) (authors : F → List Author) where
       → IsPlaced log authors (record h { stages = stages; views = views; to_stage = to_stage; to_view = to_view; from_view = from_view; sessions = sessions })
   remade h p stages a views b to_stage c to_view d from_view e sessions f =
       record { good = p.good; bases = p.bases; stages = a; views = b; to_stage = c; to_view = d; from_view = e; to_base = p.to_base; sessions = f }
+
+  -- the base shards, what they send and the sessions are others
+  pub rebased : (h : Held F) → IsPlaced log authors h → (bases : List (BaseDomain F)) → Are (IsBaseOf log authors h.plan) (base_count h.plan) bases → (to_stage : List (List (List BasePacketView))) → AreQueued (λ s j. IsFrom h.plan s j) to_stage
+      → (sessions : List Session) → Are (KnowsOwn (map (base_node log authors) bases)) most_sessions sessions → IsPlaced log authors (record h { bases = bases; to_stage = to_stage; sessions = sessions })
+  rebased h p bases a to_stage b sessions c =
+      record { good = p.good; bases = a; stages = p.stages; views = p.views; to_stage = b; to_view = p.to_view; from_view = p.from_view; to_base = p.to_base; sessions = c }
 
   -- so are the requests to sources
   pub reasked : (h : Held F) → IsPlaced log authors h → (to_base : List (List (List Ask))) → AreQueued (IsStageAsk h.plan) to_base → IsPlaced log authors (record h { to_base = to_base })
@@ -95,66 +103,43 @@ module _ {F : Type 0} (log : F → LogView) (authors : F → List Author) where
     pub stage_lost : is_up (slice_get (map stage_node h.stages) s) ≡ false → IsAt log authors taken h
     stage_lost down = record { world = sym (stage_down (world_of log authors h) s (slice_get (map stage_node h.stages) s) m down); placed = p }
 
-  -- ---- a packet of a source is off its queue
-  module _ (h : Held F) (s j : ℕ) where
-    abbrev packet_comes : Did
-    packet_comes = base_came (world_of log authors h) j s (queue h.to_stage s j)
+  -- ---- the first message of an edge, on a queue that the world has
+  module _ {X : Type 0} (old new : List (List (List X))) (r i : ℕ) (put : List (List (List X)) → Held F) (comes : List X → Did) (d : Did) (is : d ≡ comes (queue old r i)) where
+    -- there is none
+    pub none_comes : IsPlaced log authors (put old) → comes [] ≡ says (world_of log authors (put old)) idle → queue old r i ≡ [] → new ≡ old → IsDone log authors d idle (put new)
+    none_comes p none empty same =
+        subst (λ q. IsDone log authors d idle (put q)) (sym same)
+        (subst (λ x. IsDone log authors x idle (put old)) (sym (is ∙ (ap comes empty ∙ none))) (record { world = refl; reply = refl; placed = p }))
 
-    pub source_still : (ts : List (List (List BasePacketView))) → IsPlaced log authors h → queue h.to_stage s j ≡ [] → ts ≡ h.to_stage → IsDone log authors packet_comes idle (record h { to_stage = ts })
-    source_still ts p q same =
-        subst (λ t. IsDone log authors packet_comes idle (record h { to_stage = t })) (sym same)
-        (subst (λ q. IsDone log authors (base_came (world_of log authors h) j s q) idle h) (sym q) (record { world = refl; reply = refl; placed = p }))
+    -- it is off, and its domain has had it
+    module _ (k : X) (t : IsTaken old r i k new) where
+      pub one_comes : (after : List (List (List X)) → World) → comes (k ∷ t.rest) ≡ says (after (with_queue old r i t.rest)) delivered → (last : Held F) → IsAt log authors (after new) last → IsDone log authors d delivered last
+      one_comes after gives last at =
+          subst (λ x. IsDone log authors x delivered last) (sym (is ∙ (ap comes t.was ∙ (gives ∙ ap (λ q. says (after q) delivered) (sym t.is))))) (told (after new) delivered last at)
 
-    module _ (k : BasePacketView) (ts : List (List (List BasePacketView))) where
-      abbrev packet_off : Held F
-      packet_off = record h { to_stage = ts }
+      -- which is a stage shard
+      module _ (s : ℕ) (m : ToStage) (p : IsPlaced log authors (put new)) where
+        abbrev pub stage_has : List (List (List X)) → World
+        stage_has q = stage_takes (world_of log authors (put q)) s (slice_get (map stage_node (put q).stages) s) m
 
-      pub source_placed : IsPlaced log authors h → IsTaken h.to_stage s j k ts → IsPlaced log authors packet_off
-      source_placed p t =
-          remade h p h.stages p.stages h.views p.views ts (subst (AreQueued (λ s j. IsFrom h.plan s j)) (sym t.is) (queued_taken (λ s j. IsFrom h.plan s j) h.to_stage s j k t.rest t.was p.to_stage)) h.to_view p.to_view h.from_view p.from_view h.sessions p.sessions
+        pub stage_got : comes (k ∷ t.rest) ≡ says (stage_has (with_queue old r i t.rest)) delivered → (last : Held F) → IsGiven s m (put new) last → IsDone log authors d delivered last
+        stage_got gives last g = one_comes stage_has gives last (stage_passed (put new) s m p last g)
 
-      packet_is : IsTaken h.to_stage s j k ts → packet_comes ≡ says (stage_takes (world_of log authors packet_off) s (slice_get (map stage_node h.stages) s) (packet j k)) delivered
-      packet_is t =
-          let w = world_of log authors h in
-          ap (base_came w j s) t.was ∙ ap (λ q. says (stage_takes (record w { to_stage = q }) s (slice_get (map stage_node h.stages) s) (packet j k)) delivered) (sym t.is)
+        pub stage_off : comes (k ∷ t.rest) ≡ says (stage_has (with_queue old r i t.rest)) delivered → is_up (slice_get (map stage_node (put new).stages) s) ≡ false → IsDone log authors d delivered (put new)
+        stage_off gives down = one_comes stage_has gives (put new) (stage_lost (put new) s m p down)
 
-      source_done : (new : Held F) → IsTaken h.to_stage s j k ts → IsAt log authors (stage_takes (world_of log authors packet_off) s (slice_get (map stage_node h.stages) s) (packet j k)) new → IsDone log authors packet_comes delivered new
-      source_done new t a = subst (λ d. IsDone log authors d delivered new) (sym (packet_is t)) (told (stage_takes (world_of log authors packet_off) s (slice_get (map stage_node h.stages) s) (packet j k)) delivered new a)
+  -- a packet to a stage shard is off its queue
+  abbrev pub off_source : Held F → List (List (List BasePacketView)) → Held F
+  off_source h ts = record h { to_stage = ts }
 
-      pub source_passed : (new : Held F) → IsPlaced log authors h → IsTaken h.to_stage s j k ts → IsGiven s (packet j k) packet_off new → IsDone log authors packet_comes delivered new
-      source_passed new p t g = source_done new t (stage_passed packet_off s (packet j k) (source_placed p t) new g)
+  pub source_placed : (h : Held F) (s j : ℕ) (k : BasePacketView) (ts : List (List (List BasePacketView))) → IsPlaced log authors h → IsTaken h.to_stage s j k ts → IsPlaced log authors (off_source h ts)
+  source_placed h s j k ts p t =
+      remade h p h.stages p.stages h.views p.views ts (still_queued (λ s j. IsFrom h.plan s j) h.to_stage ts s j k t p.to_stage) h.to_view p.to_view h.from_view p.from_view h.sessions p.sessions
 
-      pub source_off : IsPlaced log authors h → IsTaken h.to_stage s j k ts → is_up (slice_get (map stage_node h.stages) s) ≡ false → IsDone log authors packet_comes delivered packet_off
-      source_off p t down = source_done packet_off t (stage_lost packet_off s (packet j k) (source_placed p t) down)
+  -- so is a request
+  abbrev pub off_reader : Held F → List (List (List Ask)) → Held F
+  off_reader h fv = record h { from_view = fv }
 
-  -- ---- a request of a view shard is off its queue
-  module _ (h : Held F) (s r : ℕ) where
-    abbrev request_comes : Did
-    request_comes = ask_came (world_of log authors h) r s (queue h.from_view s r)
-
-    pub request_still : (fv : List (List (List Ask))) → IsPlaced log authors h → queue h.from_view s r ≡ [] → fv ≡ h.from_view → IsDone log authors request_comes idle (record h { from_view = fv })
-    request_still fv p q same =
-        subst (λ x. IsDone log authors request_comes idle (record h { from_view = x })) (sym same)
-        (subst (λ x. IsDone log authors (ask_came (world_of log authors h) r s x) idle h) (sym q) (record { world = refl; reply = refl; placed = p }))
-
-    module _ (a : Ask) (fv : List (List (List Ask))) where
-      abbrev request_taken : Held F
-      request_taken = record h { from_view = fv }
-
-      pub request_placed : IsPlaced log authors h → IsTaken h.from_view s r a fv → IsPlaced log authors request_taken
-      request_placed p t =
-          remade h p h.stages p.stages h.views p.views h.to_stage p.to_stage h.to_view p.to_view fv (subst (AreQueued (IsAsk h.plan)) (sym t.is) (queued_taken (IsAsk h.plan) h.from_view s r a t.rest t.was p.from_view)) h.sessions p.sessions
-
-      request_is : IsTaken h.from_view s r a fv → request_comes ≡ says (stage_takes (world_of log authors request_taken) s (slice_get (map stage_node h.stages) s) (request a)) delivered
-      request_is t =
-          let w = world_of log authors h in
-          ap (ask_came w r s) t.was ∙ ap (λ q. says (stage_takes (record w { from_view = q }) s (slice_get (map stage_node h.stages) s) (request a)) delivered) (sym t.is)
-
-      request_done : (new : Held F) → IsTaken h.from_view s r a fv → IsAt log authors (stage_takes (world_of log authors request_taken) s (slice_get (map stage_node h.stages) s) (request a)) new → IsDone log authors request_comes delivered new
-      request_done new t at = subst (λ d. IsDone log authors d delivered new) (sym (request_is t)) (told (stage_takes (world_of log authors request_taken) s (slice_get (map stage_node h.stages) s) (request a)) delivered new at)
-
-      pub request_passed : (new : Held F) → IsPlaced log authors h → IsTaken h.from_view s r a fv → IsGiven s (request a) request_taken new → IsDone log authors request_comes delivered new
-      request_passed new p t g = request_done new t (stage_passed request_taken s (request a) (request_placed p t) new g)
-
-      pub request_off : IsPlaced log authors h → IsTaken h.from_view s r a fv → is_up (slice_get (map stage_node h.stages) s) ≡ false → IsDone log authors request_comes delivered request_taken
-      request_off p t down = request_done request_taken t (stage_lost request_taken s (request a) (request_placed p t) down)
+  pub request_placed : (h : Held F) (s r : ℕ) (a : Ask) (fv : List (List (List Ask))) → IsPlaced log authors h → IsTaken h.from_view s r a fv → IsPlaced log authors (off_reader h fv)
+  request_placed h s r a fv p t =
+      remade h p h.stages p.stages h.views p.views h.to_stage p.to_stage h.to_view p.to_view fv (still_queued (IsAsk h.plan) h.from_view fv s r a t p.from_view) h.sessions p.sessions

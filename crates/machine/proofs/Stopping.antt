@@ -5,12 +5,13 @@ use Rattle.plan.specs.declared.domain.DomainId.{DomainId}
 use Rattle.plan.specs.declared.domain.DomainId.TheVariants as domain
 use Rattle.model.specs.Fronts.{LogView}
 use Rattle.model.specs.Histories.{Author}
-use Rattle.model.specs.Places.{base_at, base_count}
+use Rattle.model.specs.Legal.{most_sessions}
+use Rattle.model.specs.Places.{base_count}
 use Rattle.packet.specs.Readers.{readers}
 use Rattle.packet.specs.declared.mode.Mode.{Mode}
 use Rattle.packet.specs.declared.mode.Mode.TheVariants as mode
 use Rattle.protocol.specs.Bases.{Base}
-use Rattle.protocol.specs.Edges.{is_there, place_or, reader_place}
+use Rattle.protocol.specs.Edges.{is_there}
 use Rattle.protocol.specs.Events.{refused, stopped}
 use Rattle.protocol.specs.Worlds.{Node, World}
 use Rattle.protocol.specs.WorldSteps.{says, off, off_at, after_own, own_in, stops, stop_at}
@@ -18,14 +19,16 @@ use Rattle.protocol.proofs.Lists.{map_set, map_get, set_size}
 use Rattle.row.specs.declared.refused.Refused.TheVariants.{UnknownPlace}
 use Rattle.base_domain.specs.Domains.{Domain as BaseDomain}
 use Rattle.schedule.specs.Codes.{spot_of}
+use Rattle.schedule.specs.declared.wire.Spot.{Spot}
 use Rattle.schedule.specs.declared.wire.Spot.TheVariants as spot
 use Rattle.stage_domain.specs.Domains.{Domain as StageDomain}
 use Rattle.stage_domain.specs.Domains as stage_domain
 use Rattle.view_domain.specs.Domains.{Domain as ViewDomain}
 use Rattle.view_domain.specs.Domains as view_domain
-use Rattle.machine.specs.Held.{Held, IsPlaced, IsDone, IsBaseOf, IsStageOf, IsViewOf, world_of, base_node, stage_node, view_node, runs}
+use Rattle.machine.specs.Held.{Held, Are, IsAt, IsPlaced, IsDone, IsBaseOf, IsStageOf, IsViewOf, KnowsOwn, world_of, base_node, stage_node, view_node, runs}
+use Rattle.machine.specs.Stopped.{stopped_at}
 use Rattle.machine.proofs.Acks.{past_end}
-use Rattle.machine.proofs.Steps.{set_are, remade}
+use Rattle.machine.proofs.Steps.{rebased, remade, set_are, told}
 
 -- ---- it runs no more, and is as it was in all else
 -- one that does not run is off
@@ -68,95 +71,67 @@ own_off (x ∷ xs) (suc b) n at se zero = refl
 own_off (x ∷ xs) (suc b) n at se (suc c) = own_off xs b n at se c
 
 -- ---- the plan has the domain
-stop_there : (w : World) (d : DomainId) → is_there w.plan d ≡ true → stop_at w (Some d) ≡ says (stops w d) stopped
-stop_there w d e = ap (λ b. cond b (says (stops w d) stopped) (says w (refused UnknownPlace))) e
+stop_known : (w : World) (d : DomainId) → is_there w.plan d ≡ true → stop_at w (Some d) ≡ says (stops w d) stopped
+stop_known w d e = ap (λ b. cond b (says (stops w d) stopped) (says w (refused UnknownPlace))) e
+
+-- it stops at its place
+stop_is : (w : World) (d : DomainId) → stops w d ≡ stopped_at w (spot_of w.plan d)
+stop_is w (domain.Base t n) = refl
+stop_is w (domain.Stage n) = refl
+stop_is w (domain.View i j) = refl
 
 module _ {F : Type 0} (log : F → LogView) (authors : F → List Author) where
-  pub base_stops : (h : Held F) (b : ℕ) (old new : BaseDomain F) → IsPlaced log authors h → slice_get h.bases b ≡ Some old → new ≡ record old { stopped = true }
-      → IsDone log authors (says (record (world_of log authors h) { bases = off_at b (slice_get (map (base_node log authors) h.bases) b) (map (base_node log authors) h.bases) }) stopped) stopped (record h { bases = slice_set h.bases b new })
+  -- ---- at a place
+  pub base_stops : (h : Held F) (b : ℕ) (old new : BaseDomain F) → IsPlaced log authors h → slice_get h.bases b ≡ Some old → new ≡ record old { stopped = true } → IsAt log authors (stopped_at (world_of log authors h) (spot.Base b)) (record h { bases = slice_set h.bases b new })
   base_stops h b old new p at is =
       let f = base_node log authors in
       let o = p.bases.each b old at in
       let many : length (map f (slice_set h.bases b new)) ≡ length (map f h.bases) = ap length (map_set f h.bases b new) ∙ set_size (map f h.bases) b (f new) in
       let own : (se c : ℕ) → own_in se (slice_get (map f (slice_set h.bases b new)) c) ≡ own_in se (slice_get (map f h.bases) c)
       = λ se c. ap (λ ns. own_in se (slice_get ns c)) (map_set f h.bases b new ∙ ap (slice_set (map f h.bases) b) (ap f is)) ∙ own_off (map f h.bases) b (f old) (map_get f h.bases b old at) se c in
+      let here = set_are (IsBaseOf log authors h.plan) (base_count h.plan) h.bases b new p.bases (subst (IsBaseOf log authors h.plan b) (sym is) (record { plan = o.plan; base = o.base; sessions = o.sessions })) in
+      let know : Are (KnowsOwn (map f (slice_set h.bases b new))) most_sessions h.sessions
+      = record { size = p.sessions.size; each = λ se s there. record { size = (p.sessions.each se s there).size ∙ sym many; each = λ b. (p.sessions.each se s there).each b ∙ sym (own se b) } } in
       record {
         world = ap (λ ns. record (world_of log authors h) { bases = ns }) (off_here f h.bases b old new at (ap f is));
-        reply = refl;
-        placed = record {
-          good = p.good;
-          bases = set_are (IsBaseOf log authors h.plan) (base_count h.plan) h.bases b new p.bases (subst (IsBaseOf log authors h.plan b) (sym is) (record { plan = o.plan; base = o.base; sessions = o.sessions }));
-          stages = p.stages;
-          views = p.views;
-          to_stage = p.to_stage;
-          to_view = p.to_view;
-          from_view = p.from_view;
-          to_base = p.to_base;
-          sessions = record { size = p.sessions.size; each = λ se s there. record { size = (p.sessions.each se s there).size ∙ sym many; each = λ b. (p.sessions.each se s there).each b ∙ sym (own se b) } };
-        };
+        placed = rebased log authors h p (slice_set h.bases b new) here h.to_stage p.to_stage h.sessions know;
       }
 
-  pub no_base_stops : (h : Held F) (b : ℕ) → IsPlaced log authors h → length h.bases ≤ b
-      → IsDone log authors (says (record (world_of log authors h) { bases = off_at b (slice_get (map (base_node log authors) h.bases) b) (map (base_node log authors) h.bases) }) stopped) stopped h
-  no_base_stops h b p le = record { world = ap (λ ns. record (world_of log authors h) { bases = ns }) (off_past (base_node log authors) h.bases b le); reply = refl; placed = p }
+  pub no_base_stops : (h : Held F) (b : ℕ) → IsPlaced log authors h → length h.bases ≤ b → IsAt log authors (stopped_at (world_of log authors h) (spot.Base b)) h
+  no_base_stops h b p le = record { world = ap (λ ns. record (world_of log authors h) { bases = ns }) (off_past (base_node log authors) h.bases b le); placed = p }
 
   pub stage_stops : (h : Held F) (s : ℕ) (old new : StageDomain) → IsPlaced log authors h → slice_get h.stages s ≡ Some old → (old.mode ≡ mode.Running → new ≡ stage_domain.stopped old) → (old.mode ≢ mode.Running → new ≡ old)
-      → IsDone log authors (says (record (world_of log authors h) { stages = off_at s (slice_get (map stage_node h.stages) s) (map stage_node h.stages) }) stopped) stopped (record h { stages = slice_set h.stages s new })
+      → IsAt log authors (stopped_at (world_of log authors h) (spot.Stage s)) (record h { stages = slice_set h.stages s new })
   stage_stops h s old new p at ran not =
       let o = stage_off h.plan s old new (p.stages.each s old at) ran not in
       record {
         world = ap (λ ns. record (world_of log authors h) { stages = ns }) (off_here stage_node h.stages s old new at o.0);
-        reply = refl;
         placed = remade log authors h p (slice_set h.stages s new) (set_are (IsStageOf h.plan) h.plan.stages h.stages s new p.stages o.1) h.views p.views h.to_stage p.to_stage h.to_view p.to_view h.from_view p.from_view h.sessions p.sessions;
       }
 
-  pub no_stage_stops : (h : Held F) (s : ℕ) → IsPlaced log authors h → length h.stages ≤ s
-      → IsDone log authors (says (record (world_of log authors h) { stages = off_at s (slice_get (map stage_node h.stages) s) (map stage_node h.stages) }) stopped) stopped h
-  no_stage_stops h s p le = record { world = ap (λ ns. record (world_of log authors h) { stages = ns }) (off_past stage_node h.stages s le); reply = refl; placed = p }
+  pub no_stage_stops : (h : Held F) (s : ℕ) → IsPlaced log authors h → length h.stages ≤ s → IsAt log authors (stopped_at (world_of log authors h) (spot.Stage s)) h
+  no_stage_stops h s p le = record { world = ap (λ ns. record (world_of log authors h) { stages = ns }) (off_past stage_node h.stages s le); placed = p }
 
   pub view_stops : (h : Held F) (r : ℕ) (old new : ViewDomain) → IsPlaced log authors h → slice_get h.views r ≡ Some old → (old.mode ≡ mode.Running → new ≡ view_domain.stopped old) → (old.mode ≢ mode.Running → new ≡ old)
-      → IsDone log authors (says (record (world_of log authors h) { views = off_at r (slice_get (map view_node h.views) r) (map view_node h.views) }) stopped) stopped (record h { views = slice_set h.views r new })
+      → IsAt log authors (stopped_at (world_of log authors h) (spot.View r)) (record h { views = slice_set h.views r new })
   view_stops h r old new p at ran not =
       let o = view_off h.plan r old new (p.views.each r old at) ran not in
       let w = ap (λ ns. record (world_of log authors h) { views = ns }) (off_here view_node h.views r old new at o.0) in
       let here = set_are (IsViewOf h.plan) (length (readers h.plan)) h.views r new p.views o.1 in
-      let all = remade log authors h p h.stages p.stages (slice_set h.views r new) here h.to_stage p.to_stage h.to_view p.to_view h.from_view p.from_view h.sessions p.sessions in
-      record { world = w; reply = refl; placed = all }
+      record { world = w; placed = remade log authors h p h.stages p.stages (slice_set h.views r new) here h.to_stage p.to_stage h.to_view p.to_view h.from_view p.from_view h.sessions p.sessions }
 
-  pub no_view_stops : (h : Held F) (r : ℕ) → IsPlaced log authors h → length h.views ≤ r
-      → IsDone log authors (says (record (world_of log authors h) { views = off_at r (slice_get (map view_node h.views) r) (map view_node h.views) }) stopped) stopped h
-  no_view_stops h r p le = record { world = ap (λ ns. record (world_of log authors h) { views = ns }) (off_past view_node h.views r le); reply = refl; placed = p }
+  pub no_view_stops : (h : Held F) (r : ℕ) → IsPlaced log authors h → length h.views ≤ r → IsAt log authors (stopped_at (world_of log authors h) (spot.View r)) h
+  no_view_stops h r p le = record { world = ap (λ ns. record (world_of log authors h) { views = ns }) (off_past view_node h.views r le); placed = p }
 
-  -- ---- by the place of the domain
-  pub at_base : (h : Held F) (d : DomainId) (b : ℕ) (last : Held F) → is_there h.plan d ≡ true → spot.Base b ≡ spot_of h.plan d
-      → IsDone log authors (says (record (world_of log authors h) { bases = off_at b (slice_get (map (base_node log authors) h.bases) b) (map (base_node log authors) h.bases) }) stopped) stopped last
-      → IsDone log authors (stop_at (world_of log authors h) (Some d)) stopped last
-  at_base h (domain.Base t n) b last there e done =
-      let same : b ≡ base_at h.plan t n = cc in
+  pub same_spot : (h last : Held F) (x y : Spot) → x ≡ y → IsAt log authors (stopped_at (world_of log authors h) y) last → IsAt log authors (stopped_at (world_of log authors h) x) last
+  same_spot h last x y same at = subst (λ z. IsAt log authors (stopped_at (world_of log authors h) z) last) (sym same) at
+
+  -- ---- by the name of the domain
+  pub stop_done : (h : Held F) (o : Option DomainId) (d : DomainId) (x : Spot) (last : Held F) → o ≡ Some d → is_there h.plan d ≡ true → x ≡ spot_of h.plan d → IsAt log authors (stopped_at (world_of log authors h) x) last → IsDone log authors (stop_at (world_of log authors h) o) stopped last
+  stop_done h o d x last is there at done =
       let w = world_of log authors h in
-      subst (λ x. IsDone log authors x stopped last) (sym (stop_there w (domain.Base t n) there)) (subst (λ i. IsDone log authors (says (record w { bases = off_at i (slice_get w.bases i) w.bases }) stopped) stopped last) same done)
-  at_base h (domain.Stage n) b last there e done = cc
-  at_base h (domain.View i j) b last there e done = cc
-
-  pub at_stage : (h : Held F) (d : DomainId) (s : ℕ) (last : Held F) → is_there h.plan d ≡ true → spot.Stage s ≡ spot_of h.plan d
-      → IsDone log authors (says (record (world_of log authors h) { stages = off_at s (slice_get (map stage_node h.stages) s) (map stage_node h.stages) }) stopped) stopped last
-      → IsDone log authors (stop_at (world_of log authors h) (Some d)) stopped last
-  at_stage h (domain.Base t n) s last there e done = cc
-  at_stage h (domain.Stage n) s last there e done =
-      let same : s ≡ n = cc in
-      let w = world_of log authors h in
-      subst (λ x. IsDone log authors x stopped last) (sym (stop_there w (domain.Stage n) there)) (subst (λ i. IsDone log authors (says (record w { stages = off_at i (slice_get w.stages i) w.stages }) stopped) stopped last) same done)
-  at_stage h (domain.View i j) s last there e done = cc
-
-  pub at_view : (h : Held F) (d : DomainId) (r : ℕ) (last : Held F) → is_there h.plan d ≡ true → spot.View r ≡ spot_of h.plan d
-      → IsDone log authors (says (record (world_of log authors h) { views = off_at r (slice_get (map view_node h.views) r) (map view_node h.views) }) stopped) stopped last
-      → IsDone log authors (stop_at (world_of log authors h) (Some d)) stopped last
-  at_view h (domain.Base t n) r last there e done = cc
-  at_view h (domain.Stage n) r last there e done = cc
-  at_view h (domain.View i j) r last there e done =
-      let same : r ≡ place_or (reader_place h.plan i j) = cc in
-      let w = world_of log authors h in
-      subst (λ x. IsDone log authors x stopped last) (sym (stop_there w (domain.View i j) there)) (subst (λ i. IsDone log authors (says (record w { views = off_at i (slice_get w.views i) w.views }) stopped) stopped last) same done)
+      let all : stop_at w o ≡ says (stopped_at w x) stopped = ap (stop_at w) is ∙ (stop_known w d there ∙ ap (λ v. says v stopped) (stop_is w d ∙ ap (stopped_at w) (sym at))) in
+      subst (λ y. IsDone log authors y stopped last) (sym all) (told log authors (stopped_at w x) stopped last done)
 
   -- ---- the plan has no such domain
   pub stop_none : (h : Held F) (o : Option DomainId) → IsPlaced log authors h → o ≡ None → IsDone log authors (stop_at (world_of log authors h) o) (refused UnknownPlace) h

@@ -14,12 +14,12 @@ use Rattle.packet.specs.declared.mode.Mode.{Mode}
 use Rattle.packet.specs.declared.mode.Mode.TheVariants as mode
 use Rattle.protocol.specs.Bases.{Base}
 use Rattle.protocol.specs.Edges.{queue}
-use Rattle.protocol.specs.Events.{Reply}
+use Rattle.protocol.specs.Events.{Event, Reply}
 use Rattle.protocol.specs.Laws.{IsReached}
 use Rattle.protocol.specs.Stages.{Stage}
 use Rattle.protocol.specs.Views.{View}
 use Rattle.protocol.specs.Worlds.{Node, World}
-use Rattle.protocol.specs.WorldSteps.{Did, own_in}
+use Rattle.protocol.specs.WorldSteps.{Did, own_in, step}
 use Rattle.base_domain.specs.Received.{base_at}
 use Rattle.base_domain.specs.Domains.{Domain as BaseDomain}
 use Rattle.schedule.specs.Sessions.{Session}
@@ -155,3 +155,7 @@ module _ {F : Type 0} (log : F → LogView) (authors : F → List Author) where
     pub world : world_of new ≡ d.world
     pub reply : said ≡ d.reply
     pub placed : IsPlaced new
+
+  -- the event has gone as the protocol says, and all is in its place
+  abbrev pub Happens : Event → Held F → Reply → Held F → Type 0
+  Happens e old said new = IsDone (step (world_of old) e) said new

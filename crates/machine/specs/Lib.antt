@@ -2,3 +2,4 @@ pub mod Held
 pub mod Turned
 pub mod Machines
 pub mod Started
+pub mod Stopped

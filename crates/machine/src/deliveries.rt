@@ -1,7 +1,7 @@
 //! Deliveries: the first message of an edge goes to the domain at its end.
 ghost use Rattle.std.specs.Prelude.{IfOk};
 ghost use Rattle.protocol.specs.Edges.{queue};
-ghost use Rattle.protocol.specs.WorldSteps.{ask_came, base_ask_came, base_came, delivery, stage_came};
+ghost use Rattle.protocol.specs.WorldSteps.{base_ask_came, delivery, stage_came};
 ghost use Rattle.schedule.specs.Codes.{reply_of, wire_in};
 ghost use Rattle.machine.specs.Held.{AgreeingAreOne, IsDone, IsWhole, sent_in, world_of};
 ghost use Rattle.machine.specs.Machines.{held};
@@ -19,7 +19,8 @@ use stage_steps::message::ToStage;
 use std::alloc::Global;
 use view_domain::message::ToView;
 
-/// The first message of an edge is delivered. Errors: then nothing is said of the machine.
+/// The first message of an edge is delivered; a domain that has stopped loses it. Errors: then
+/// nothing is said of the machine.
 pub fn deliver<F: Fronts>(
     alloc: Global,
     words: &F::Words,
@@ -33,60 +34,29 @@ pub fn deliver<F: Fronts>(
         (held machine.new)) }
 {
     match wire {
-        Wire::FromSource { source, stage } => from_source(alloc, machine, source, stage),
+        Wire::FromSource { source, stage } => {
+            let Some(packet) = machine.to_stage.take(stage, source) else {
+                return Ok(Reply::Idle);
+            };
+            if !stage_runs(&machine.stages, stage) {
+                return Ok(Reply::Delivered);
+            }
+            give_stage(alloc, machine, stage, ToStage::Packet { source, packet })?;
+            Ok(Reply::Delivered)
+        }
         Wire::FromStage { stage, reader } => from_stage(alloc, machine, stage, reader),
-        Wire::AskStage { reader, stage } => ask_stage(alloc, machine, reader, stage),
+        Wire::AskStage { reader, stage } => {
+            let Some(request) = machine.from_view.take(stage, reader) else {
+                return Ok(Reply::Idle);
+            };
+            if !stage_runs(&machine.stages, stage) {
+                return Ok(Reply::Delivered);
+            }
+            give_stage(alloc, machine, stage, ToStage::Request(request))?;
+            Ok(Reply::Delivered)
+        }
         Wire::AskSource { stage, source } => ask_source(alloc, words, machine, stage, source),
     }
-}
-
-/// The first packet on the edge from a source to a stage shard. A shard that has stopped loses it.
-/// Errors: then nothing is said of the machine.
-fn from_source<F: Fronts>(
-    alloc: Global,
-    machine: &mut Machine<F>,
-    source: usize,
-    stage: usize,
-) -> Result<Reply, Refused>
-    requires agree { AgreeingAreOne F.are_one }
-    requires whole { IsWhole F.log F.authors (held machine.old) }
-    ensures done { IfOk result (λ r. IsDone F.log F.authors
-        (base_came (world_of F.log F.authors (held machine.old)) source stage
-        (queue (held machine.old).to_stage stage source)) (reply_of r) (held machine.new)) }
-{
-    let runs = stage_runs(&machine.stages, stage);
-    let Some(packet) = machine.to_stage.take(stage, source) else {
-        return Ok(Reply::Idle);
-    };
-    if !runs {
-        return Ok(Reply::Delivered);
-    }
-    give_stage(alloc, machine, stage, ToStage::Packet { source, packet })?;
-    Ok(Reply::Delivered)
-}
-
-/// The first request on the edge from a view shard to a stage shard. A shard that has stopped loses
-/// it. Errors: then nothing is said of the machine.
-fn ask_stage<F: Fronts>(
-    alloc: Global,
-    machine: &mut Machine<F>,
-    reader: usize,
-    stage: usize,
-) -> Result<Reply, Refused>
-    requires whole { IsWhole F.log F.authors (held machine.old) }
-    ensures done { IfOk result (λ r. IsDone F.log F.authors
-        (ask_came (world_of F.log F.authors (held machine.old)) reader stage
-        (queue (held machine.old).from_view stage reader)) (reply_of r) (held machine.new)) }
-{
-    let runs = stage_runs(&machine.stages, stage);
-    let Some(request) = machine.from_view.take(stage, reader) else {
-        return Ok(Reply::Idle);
-    };
-    if !runs {
-        return Ok(Reply::Delivered);
-    }
-    give_stage(alloc, machine, stage, ToStage::Request(request))?;
-    Ok(Reply::Delivered)
 }
 
 /// The first request on the edge from a stage shard to a source. A base shard that has stopped

@@ -1,5 +1,5 @@
 -- What the map's entries become, as data.
-use Rattle.std.proofs.Common.{◌≡◌, ◌<◌, ◌^◌, ◌-◌, ℕ, Bool, true, false, cond, not, List, [], ◌∷◌, ◌++◌, fold, Option, Some, None, Result, Ok, Err, OnErr, refl, ap, sym, ◌∙◌, subst, length, take, arith}
+use Rattle.std.proofs.Common.{◌≡◌, ◌<◌, ◌^◌, ◌-◌, Bool, true, false, cond, not, List, [], ◌∷◌, ◌++◌, fold, Option, Some, None, Result, Ok, Err, OnErr, refl, ap, sym, ◌∙◌, subst, length, take, arith}
 use Rattle.std.proofs.lemmas.List.{take_all}
 use Rattle.std.proofs.lemmas.Map.Keys.{IsDistinct-head, IsDistinct-tail}
 use Rattle.std.specs.List.{IsDistinct, AllByRecursion}
@@ -7,7 +7,7 @@ use Rattle.std.specs.Map.{lookup, lookup_entry, keys_of, remove_entry, set_value
 use Rattle.std.specs.Option.{option_map_or}
 use Rattle.lru.specs.LruCache.{LruCache, put_entries}
 use Rattle.row.specs.BagChanges.{with_records}
-use Rattle.row.specs.Cells.{Datum, Cells, datum_of, same}
+use Rattle.row.specs.Cells.{Cells, datum_of, same}
 use Rattle.row.specs.Groups.{equal}
 use Rattle.row.specs.declared.record.Record.{Record}
 use Rattle.row.specs.declared.value.Value.{Value}

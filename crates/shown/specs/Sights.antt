@@ -32,6 +32,11 @@ abbrev pub IsOf : ℕ → ℕ → Option Snapshot → Type 0
 IsOf view shard None = ⊥
 IsOf view shard (Some s) = (s.view ≡ view) × (s.shard ≡ shard)
 
+-- a reader of this shard has looked: what it saw is of the shard, and no less than what it had seen
+pub record HasLooked (view shard : ℕ) (before after : Option Snapshot) : Type 0 where
+  pub of : IsOf view shard after
+  pub later : IsLater (seen_or nothing before) (seen_or nothing after)
+
 -- what is shown once all that is pending is published
 abbrev pub ahead : {J V : Type 0} → State Snapshot (Delta J) V → Snapshot
 ahead s = fold applied s.shown s.pending

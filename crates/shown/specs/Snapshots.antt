@@ -1,5 +1,5 @@
 -- What a shown copy shows.
-use Rattle.std.specs.Prelude.{◌≡◌, ℕ, cond, not, List, ◌∷◌, ◌++◌, [], Option, Some, None, IfSome, filter, fold, map, length, replicate, slice_set}
+use Rattle.std.specs.Prelude.{◌≡◌, ℕ, cond, not, List, ◌∷◌, [], Option, Some, None, IfSome, filter, fold, map, length, replicate, slice_set}
 use Rattle.std.specs.Map.{lookup}
 use Rattle.row.specs.BagChanges.{with_records}
 use Rattle.row.specs.Cells.{Datum, Cells, datum_of, same}
@@ -15,7 +15,6 @@ use Rattle.packet.specs.Lines.{entries_of, lengths_of}
 use Rattle.view_domain.specs.Outboxes.{ShownView, put_line}
 use Rattle.view_domain.specs.declared.shown.KeyChange.{KeyChange}
 use Rattle.view_domain.specs.declared.shown.KeyChange.TheVariants.{Fills, Turns, Goes}
-use Rattle.shown.specs.Moves.{MovedView}
 use Rattle.shown.specs.declared.delta.Delta.{Delta}
 use Rattle.shown.specs.declared.delta.Delta.TheVariants.{Key, Moves, Asks}
 

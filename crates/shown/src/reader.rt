@@ -5,7 +5,7 @@ ghost use Rattle.book.specs.Sessions.{fronts};
 ghost use Rattle.row.specs.Cells.{datum_of};
 ghost use Rattle.shown.specs.Looks.{OnHit, OnMiss};
 ghost use Rattle.shown.specs.Snapshots.{Snapshot, IsLater, IsTrue, shown_at};
-ghost use Rattle.shown.specs.Sights.{IsOf, seen_or, nothing};
+ghost use Rattle.shown.specs.Sights.{HasLooked, IsOf, seen_or, nothing};
 
 use crate::rule::{Looks, Published, Sight};
 use crate::shown::Shown;
@@ -142,9 +142,7 @@ fn look_by<J: Naming>(
     shard: usize,
 ) -> (Reader<Shown<J>, Sight, Published>, Result<Look<J>, Refused>)
     requires of { IsOf view shard (sight_of reader.place) }
-    ensures of { IsOf view shard (sight_of result.0.place) }
-    ensures later { IsLater (seen_or nothing (sight_of reader.place))
-        (seen_or nothing (sight_of result.0.place)) }
+    ensures looked { HasLooked view shard (sight_of reader.place) (sight_of result.0.place) }
     ensures truth { IfOk result.1 (λ _. IsTrue J.plan (seen_or nothing (sight_of result.0.place))) }
     ensures hit { IfOk result.1 (OnHit (λ rows cut.
         (shown_at (seen_or nothing (sight_of result.0.place)).rows (datum_of key.now) ≡ Some rows)
@@ -171,9 +169,7 @@ fn cut_by<J: Naming>(
     shard: usize,
 ) -> (Reader<Shown<J>, Sight, Published>, Result<Cut<J>, Refused>)
     requires of { IsOf view shard (sight_of reader.place) }
-    ensures of { IsOf view shard (sight_of result.0.place) }
-    ensures later { IsLater (seen_or nothing (sight_of reader.place))
-        (seen_or nothing (sight_of result.0.place)) }
+    ensures looked { HasLooked view shard (sight_of reader.place) (sight_of result.0.place) }
     ensures cut { IfOk result.1 (λ c.
         (c.lengths ≡ (seen_or nothing (sight_of result.0.place)).lengths)
         × (fronts J.plan c ≡ (seen_or nothing (sight_of result.0.place)).cut)) }
@@ -195,9 +191,7 @@ fn asked_by<J: Naming>(
     shard: usize,
 ) -> (Reader<Shown<J>, Sight, Published>, Result<u64, Refused>)
     requires of { IsOf view shard (sight_of reader.place) }
-    ensures of { IsOf view shard (sight_of result.0.place) }
-    ensures later { IsLater (seen_or nothing (sight_of reader.place))
-        (seen_or nothing (sight_of result.0.place)) }
+    ensures looked { HasLooked view shard (sight_of reader.place) (sight_of result.0.place) }
     ensures asked { IfOk result.1 (λ n. n ≡ (seen_or nothing (sight_of result.0.place)).asked) }
     ensures only { IfErr result.1 (λ e. e ≡ Refused.NoMemory) }
 {

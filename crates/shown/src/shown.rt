@@ -1,5 +1,5 @@
 //! What a shown copy holds.
-ghost use Rattle.std.specs.Prelude.{◌≡◌, ◌<◌, IfOk, OnOk, OnErr, [], slice_set};
+ghost use Rattle.std.specs.Prelude.{◌≡◌, ◌<◌, IfOk, OnOk, OnErr, slice_set};
 ghost use Rattle.std.specs.Option.{option_copied};
 ghost use Rattle.book.specs.Sessions.{fronts};
 ghost use Rattle.packet.specs.Lines.{entries_of, lengths_of};

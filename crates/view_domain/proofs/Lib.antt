@@ -9,3 +9,4 @@ mod OutSteps
 mod AskSteps
 mod Holds
 mod Packets
+pub mod Readers

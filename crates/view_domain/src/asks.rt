@@ -1,10 +1,10 @@
 //! Requests of a view shard, and what a packet makes it put out.
-ghost use Rattle.std.specs.Prelude.{◌≡◌, ◌<◌, [], List, Some, None, map, length, replicate, slice_get, slice_set, false, is_some, IfOk, OnOk, OnErr, IfSome, IfNone, Option};
+ghost use Rattle.std.specs.Prelude.{◌≡◌, ◌<◌, [], List, Some, None, map, length, replicate, slice_get, slice_set, false, is_some, IfOk, OnOk, IfSome, IfNone, Option};
 ghost use Rattle.row.specs.Groups.{equal};
 ghost use Rattle.row.specs.declared.value.Value.{Value as Key};
 ghost use Rattle.partial.specs.States.{state_of, is_hole};
 ghost use Rattle.partial.specs.Sums.{sum_of_bags};
-ghost use Rattle.row.specs.Cells.{Cells, Datum, datum_of};
+ghost use Rattle.row.specs.Cells.{Cells, datum_of};
 ghost use Rattle.partial.specs.Truth.{IsTrueOf};
 ghost use Rattle.packet.specs.Codes.{mark_in, marks_in};
 ghost use Rattle.packet.specs.Keys.{is_among, stands_of, begin_at};

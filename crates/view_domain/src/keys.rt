@@ -1,12 +1,12 @@
 //! What a view shard does with keys.
-ghost use Rattle.std.specs.Prelude.{if◌then◌else◌, is_some, true, false, ◌≡◌, ◌++◌, ◌∷◌, [], List, Option, Some, map, slice_get, slice_set, OnOk};
+ghost use Rattle.std.specs.Prelude.{if◌then◌else◌, is_some, true, false, ◌≡◌, ◌++◌, ◌∷◌, [], List, Option, Some, map, slice_get, OnOk};
 ghost use Rattle.std.specs.Map.{lookup};
 ghost use Rattle.row.specs.Cells.{Cells, datum_of};
 ghost use Rattle.row.specs.Changes.{IsCovered};
 ghost use Rattle.row.specs.Groups.{equal};
 ghost use Rattle.row.specs.declared.value.Value.{Value as Key};
 ghost use Rattle.row.specs.BagChanges.{with_records};
-ghost use Rattle.partial.specs.States.{Kept, order_of, after_change, OthersStay, state_of, ChangeFits};
+ghost use Rattle.partial.specs.States.{Kept, after_change, OthersStay, state_of, ChangeFits};
 ghost use Rattle.partial.specs.Sums.{sum_of_bags};
 ghost use Rattle.partial.specs.Truth.{IsTrueOf};
 ghost use Rattle.packet.specs.Keys.{Ascends, is_among, stands_of, open_at, drop_at, give_at};

@@ -1,6 +1,5 @@
 //! What a view shard tells its shown copy.
 ghost use Rattle.std.specs.Prelude.{◌≡◌, IfSome, List};
-ghost use Rattle.std.specs.Option.{option_map};
 ghost use Rattle.model.specs.Queries.{Line as LineView};
 ghost use Rattle.view_domain.specs.Outboxes.{asked_after, cut_after, keys_told, line_told, put_line};
 

@@ -1,5 +1,5 @@
 //! What a view shard does with what a packet of a stage shard carries.
-ghost use Rattle.std.specs.Prelude.{◌≡◌, [], List, Some, None, map, length, slice_get, slice_set, true, false, IfOk, OnOk, IfSome, Option};
+ghost use Rattle.std.specs.Prelude.{◌≡◌, List, Some, map, slice_get, slice_set, false, IfOk, OnOk, Option};
 ghost use Rattle.row.specs.Groups.{equal};
 ghost use Rattle.row.specs.declared.value.Value.{Value as Key};
 ghost use Rattle.partial.specs.States.{state_of};

@@ -1,5 +1,5 @@
 //! One view shard over its cut.
-ghost use Rattle.std.specs.Prelude.{IfSome, ◌≡◌, ◌≢◌, ◌<◌, ◌+◌, [], List, Some, None, Err, length, map, slice_get, IfOk, OnOk, IfErr};
+ghost use Rattle.std.specs.Prelude.{IfSome, ◌≡◌, ◌≢◌, ◌<◌, ◌+◌, [], Some, None, Err, length, IfOk, OnOk, IfErr};
 ghost use Rattle.std.specs.Option.{option_copied};
 ghost use Rattle.row.specs.Bags.{Each};
 ghost use Rattle.row.specs.Cells.{datum_of};

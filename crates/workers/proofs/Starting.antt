@@ -1,25 +1,22 @@
 -- Lines and cuts of empty fronts, and what a copy shows over them.
-use Rattle.std.proofs.Common.{◌≡◌, ℕ, zero, suc, ◌+◌, ◌<◌, List, [], ◌∷◌, ◌++◌, map, length, replicate, Option, Some, None, Result, Ok, Err, IfOk, slice_get, slice_index_or, take, refl, ap, sym, ◌∙◌, subst, arith}
-use Rattle.std.specs.List.{range_with_len}
-use Rattle.std.proofs.lemmas.List.{map-append, map_more, replicate_more, take_all}
+use Rattle.std.proofs.Common.{◌≡◌, ℕ, zero, suc, ◌+◌, ◌<◌, List, [], ◌∷◌, ◌++◌, map, length, replicate, Some, Result, Ok, Err, IfOk, slice_get, slice_index_or, take, refl, ap, sym, ◌∙◌, subst, arith}
+use Rattle.std.proofs.lemmas.List.{map-append, map_more, replicate_more}
 use Rattle.row.specs.Bags.{Each}
 use Rattle.plan.specs.Layouts.{Layout}
 use Rattle.model.specs.Fronts.{LogView}
 use Rattle.model.specs.Places.{sources}
-use Rattle.model.specs.Queries.{Line}
 use Rattle.book.specs.Fronts.{FrontView, entries}
 use Rattle.packet.specs.Lines.{AreOf, IsOf, entries_of}
-use Rattle.packet.specs.Readers.{Reader, readers, readers_of}
+use Rattle.packet.specs.Readers.{Reader, readers}
 use Rattle.packet.specs.Truth.{Pointwise}
 use Rattle.packet.specs.declared.reader.Reader.{Reader as Code}
 use Rattle.protocol.proofs.Lists.{each_at, map_get}
-use Rattle.protocol.proofs.Owns.{each_flat}
-use Rattle.protocol.proofs.Spots.{each_range}
 use Rattle.protocol.specs.WorldSteps.{lengths_of}
 use Rattle.routes.specs.Mails.{empty_log}
 use Rattle.schedule.specs.Codes.{reader_in}
 use Rattle.shown.specs.Snapshots.{first_of}
 use Rattle.view_domain.specs.Domains.{Domain, lines_of}
+use Rattle.view_domain.proofs.Readers.{readers_there}
 use Rattle.workers.specs.Fresh.{empty_line, fresh_view}
 use Rattle.workers.specs.ViewTurns.{Shows}
 
@@ -116,18 +113,6 @@ if_shows p q i j cut (Ok d) same made is = subst (λ x. Shows x (first_of p i j)
 if_shows p q i j cut (Err e) same made is = tt
 
 -- ---- view shards are of views of the plan
-readers_there : (p : Layout) → Each (λ (r : Reader). r.view < length p.views) (readers p)
-readers_there p =
-    each_flat (λ (r : Reader). r.view < length p.views) (readers_of p) (range_with_len 0 (length p.views))
-    (each_range (λ i. Each (λ (r : Reader). r.view < length p.views) (readers_of p i)) 0 (length p.views) (λ k lt. of_view (0 + k) (omega (arith, lt))))
-  where
-    of_view : (i : ℕ) → i < length p.views → Each (λ (r : Reader). r.view < length p.views) (readers_of p i)
-    of_view i lt = all (range_with_len 0 _)
-      where
-        all : (js : List ℕ) → Each (λ (r : Reader). r.view < length p.views) (map (λ j. record { view = i; shard = j }) js)
-        all [] = tt
-        all (j ∷ js) = (lt, all js)
-
 pub reader_at : (p : Layout) (xs : List Code) (i : ℕ) (x : Code) → map reader_in xs ≡ readers p → slice_get xs i ≡ Some x → slice_get (readers p) i ≡ Some (reader_in x)
 reader_at p xs i x are at = ap (λ rs. slice_get rs i) (sym are) ∙ map_get reader_in xs i x at
 

@@ -1,9 +1,10 @@
 -- What a look at a key of a view shard finds, and what it makes of the session.
-use Rattle.std.proofs.Common.{true, false, cond, Bool, ◌≡◌, ℕ, ◌<◌, List, map, length, Option, Some, None, is_some, slice_get, slice_set, refl, ap, sym, ◌∙◌, subst}
+use Rattle.std.proofs.Common.{true, false, cond, Bool, ◌≡◌, ℕ, ◌<◌, List, map, length, Option, Some, None, is_some, slice_get, slice_set, refl, ap, sym, ◌∙◌, subst, inl, inr, Result, Ok, Err, IfOk}
 use Rattle.std.specs.Option.{IfSome}
 use Rattle.row.specs.Cells.{Datum, Cells, datum_of}
 use Rattle.row.specs.Groups.{equal}
 use Rattle.row.specs.declared.refused.Refused.{Refused}
+use Rattle.row.specs.declared.refused.Refused.TheVariants.{UnknownPlace}
 use Rattle.row.specs.declared.value.Value.{Value}
 use Rattle.plan.specs.Layouts.{Layout, view_named}
 use Rattle.model.specs.Fronts.{LogView}
@@ -14,16 +15,17 @@ use Rattle.partial.specs.States.{Kept, State, Hole, Waiting, Filled, state_of, e
 use Rattle.packet.specs.Keys.{stands_of, stand_of}
 use Rattle.packet.proofs.KeptKeys.{stand_is}
 use Rattle.packet.specs.Readers.{Reader, readers}
-use Rattle.protocol.specs.Events.{Reply, hit, miss, refused}
+use Rattle.protocol.specs.Events.{Event, Reply, hit, miss, refused, try_read}
 use Rattle.protocol.specs.Worlds.{Caller, World}
-use Rattle.protocol.specs.WorldSteps.{Did, says, with_caller, lengths_of, looked, reader_of, try_in, try_by}
+use Rattle.protocol.specs.WorldSteps.{Did, says, with_caller, lengths_of, looked, step, try_in, try_by}
 use Rattle.protocol.proofs.Lists.{map_get}
 use Rattle.schedule.specs.Sessions.{Session}
 use Rattle.view_domain.specs.Domains.{Domain as ViewDomain, lines_of}
 use Rattle.view_domain.specs.Shown.{rows_at}
 use Rattle.machine.specs.Held.{Held, IsPlaced, IsDone, IsViewOf, world_of, view_node, base_node}
-use Rattle.machine.proofs.Acks.{knows_still, with_session, session_world, session_placed}
+use Rattle.machine.proofs.Acks.{knows_still, session_placed, session_world, stranger, with_session}
 use Rattle.machine.proofs.Meeting.{stands}
+use Rattle.world.specs.Sought.{IsDenied, IsSought}
 
 -- ---- a key
 entry_filled : {E : Type 0} (st : State E) → is_some (entry_of st) ≡ is_filled (stand_of st)
@@ -107,19 +109,26 @@ module _ {F : Type 0} (log : F → LogView) (authors : F → List Author) where
         })
 
   -- ---- a try
-  pub tried : (h : Held F) (se : ℕ) (view : List ℕ) (k : Datum) (i r : ℕ) (reply : Reply) (last : Held F) (q : Layout) → q ≡ h.plan → se < length h.sessions → view_named q view ≡ Some i → read_refusal q (view_named q view) k ≡ None → r ≡ reader_of h.plan i k
+  pub tried : (h : Held F) (se : ℕ) (view : List ℕ) (k : Datum) (i r : ℕ) (reply : Reply) (last : Held F) → IsSought h se view k i r
       → ((c : Caller) → slice_get (world_of log authors h).callers se ≡ Some c → IsDone log authors (looked (world_of log authors h) se c i k r (slice_get (map view_node h.views) r)) reply last)
       → IsDone log authors (try_by (world_of log authors h) se (slice_get (world_of log authors h).callers se) view k) reply last
-  tried h se view k i r reply last q same lt named free is done =
+  tried h se view k i r reply last sought done =
       let w = world_of log authors h in
-      let s = stands h.sessions se lt in
+      let s = stands h.sessions se sought.session in
       let there : slice_get w.callers se ≡ Some (s.0).is = map_get (λ (x : Session). x.is) h.sessions se s.0 s.1 in
       let all : try_by w se (slice_get w.callers se) view k ≡ looked w se (s.0).is i k r (slice_get w.views r)
       = ap (λ o. try_by w se o view k) there
-      ∙ (ap (λ x. try_in w se (s.0).is (view_named w.plan view) k x) (subst (λ q. read_refusal q (view_named q view) k ≡ None) same free)
-      ∙ (ap (λ v. try_in w se (s.0).is v k None) (subst (λ q. view_named q view ≡ Some i) same named)
-      ∙ ap (λ q. looked w se (s.0).is i k q (slice_get w.views q)) (sym is))) in
+      ∙ (ap (λ x. try_in w se (s.0).is (view_named w.plan view) k x) sought.free
+      ∙ (ap (λ v. try_in w se (s.0).is v k None) sought.named
+      ∙ ap (λ q. looked w se (s.0).is i k q (slice_get w.views q)) (sym sought.place))) in
       subst (λ x. IsDone log authors x reply last) (sym all) (done (s.0).is there)
+
+  -- as the event that it is
+  pub tries : {R E : Type 0} (said : R → Reply) (h : Held F) (se : ℕ) (view : List ℕ) (k : Datum) (i r : ℕ) (last : Held F) (e : Event) → e ≡ try_read se view k → IsSought h se view k i r → (o : Result R E)
+      → IfOk o (λ x. (c : Caller) → slice_get (world_of log authors h).callers se ≡ Some c → IsDone log authors (looked (world_of log authors h) se c i k r (slice_get (map view_node h.views) r)) (said x) last)
+      → IfOk o (λ x. IsDone log authors (step (world_of log authors h) e) (said x) last)
+  tries said h se view k i r last e is sought (Ok x) done = subst (λ y. IsDone log authors (step (world_of log authors h) y) (said x) last) (sym is) (tried h se view k i r (said x) last sought done)
+  tries said h se view k i r last e is sought (Err x) done = tt
 
   -- ---- the arguments of a session are refused
   pub answered : (h : Held F) (se : ℕ) (f : Option Caller → Did) (reply : Reply) → ((c : Caller) → f (Some c) ≡ says (world_of log authors h) reply) → IsPlaced log authors h → se < length h.sessions
@@ -129,8 +138,13 @@ module _ {F : Type 0} (log : F → LogView) (authors : F → List Author) where
       subst (λ o. IsDone log authors (f o) reply h) (sym (map_get (λ (x : Session). x.is) h.sessions se s.0 s.1))
       (subst (λ d. IsDone log authors d reply h) (sym (is (s.0).is)) (record { world = refl; reply = refl; placed = p }))
 
-  pub try_refused : (h : Held F) (se : ℕ) (view : List ℕ) (k : Datum) (e : Refused) (q : Layout) → q ≡ h.plan → IsPlaced log authors h → se < length h.sessions → read_refusal q (view_named q view) k ≡ Some e
-      → IsDone log authors (try_by (world_of log authors h) se (slice_get (world_of log authors h).callers se) view k) (refused e) h
-  try_refused h se view k e q same p lt why =
+  -- there is no such session, or they are those of a read
+  pub denied : (h : Held F) (se : ℕ) (view : List ℕ) (k : Datum) (e : Refused) (f : Option Caller → Did) → f None ≡ says (world_of log authors h) (refused UnknownPlace)
+      → (read_refusal h.plan (view_named h.plan view) k ≡ Some e → (c : Caller) → f (Some c) ≡ says (world_of log authors h) (refused e)) → IsPlaced log authors h → IsDenied h se view k e → IsDone log authors (f (slice_get (world_of log authors h).callers se)) (refused e) h
+  denied h se view k e f none some p (inl r) = subst (λ x. IsDone log authors (f (slice_get (world_of log authors h).callers se)) (refused x) h) (sym r.1) (stranger log authors h se f (refused UnknownPlace) none p r.0)
+  denied h se view k e f none some p (inr r) = answered h se f (refused e) (some r.1) p r.0
+
+  pub try_denied : (h : Held F) (se : ℕ) (view : List ℕ) (k : Datum) (x : Refused) (e : Event) → e ≡ try_read se view k → IsPlaced log authors h → IsDenied h se view k x → IsDone log authors (step (world_of log authors h) e) (refused x) h
+  try_denied h se view k x e is p why =
       let w = world_of log authors h in
-      answered h se (λ o. try_by w se o view k) (refused e) (λ c. ap (try_in w se c (view_named h.plan view) k) (subst (λ q. read_refusal q (view_named q view) k ≡ Some e) same why)) p lt
+      subst (λ y. IsDone log authors (step w y) (refused x) h) (sym is) (denied h se view k x (λ o. try_by w se o view k) refl (λ said c. ap (try_in w se c (view_named h.plan view) k) said) p why)

@@ -1,23 +1,24 @@
 -- What a want makes of the world.
-use Rattle.std.proofs.Common.{Bool, true, false, cond, ◌&&◌, ◌≡◌, ℕ, ◌<◌, List, map, length, Option, Some, None, is_some, Bor, slice_get, refl, ap, sym, ◌∙◌, subst}
+use Rattle.std.proofs.Common.{Bool, true, false, cond, ◌&&◌, ◌≡◌, ℕ, List, map, Option, Some, None, is_some, Bor, slice_get, refl, ap, sym, ◌∙◌, subst, Result, Ok, Err, IfOk}
 use Rattle.std.specs.Option.{option_copied}
 use Rattle.row.specs.Cells.{Datum}
 use Rattle.row.specs.declared.refused.Refused.{Refused}
-use Rattle.row.specs.declared.refused.Refused.TheVariants.{Stopped, UnknownPlace}
-use Rattle.plan.specs.Layouts.{Layout, view_named}
+use Rattle.row.specs.declared.refused.Refused.TheVariants.{Stopped}
+use Rattle.plan.specs.Layouts.{view_named}
 use Rattle.model.specs.Fronts.{LogView}
 use Rattle.model.specs.Histories.{Author}
-use Rattle.model.specs.Refusals.{read_refusal}
 use Rattle.partial.specs.States.{is_filled}
-use Rattle.protocol.specs.Events.{Reply, refused, wanted}
+use Rattle.protocol.specs.Events.{Event, Reply, refused, want, wanted}
 use Rattle.protocol.specs.Views as view
 use Rattle.protocol.specs.Worlds.{World}
-use Rattle.protocol.specs.WorldSteps.{Did, says, reader_of, want_by, want_in, wanted_at, view_takes, is_up, lower_run}
+use Rattle.protocol.specs.WorldSteps.{Did, says, step, want_by, want_in, wanted_at, view_takes, is_up, lower_run}
 use Rattle.protocol.proofs.Lists.{map_get}
 use Rattle.schedule.specs.Sessions.{Session}
 use Rattle.view_domain.specs.Domains.{Domain as ViewDomain, view_of}
 use Rattle.machine.specs.Held.{Held, IsPlaced, IsDone, world_of, view_node}
 use Rattle.machine.proofs.Meeting.{stands}
+use Rattle.world.specs.Sought.{IsDenied, IsSought}
+use Rattle.world.proofs.Looking.{denied}
 
 pub some_copied : {X : Type 0} (o : Option (Bor X)) → is_some o ≡ is_some (option_copied o)
 some_copied None = refl
@@ -63,31 +64,24 @@ module _ {F : Type 0} (log : F → LogView) (authors : F → List Author) where
   is_up_of false b e = cc
 
   -- ---- of a session
-  pub wants : (h : Held F) (se : ℕ) (name : List ℕ) (k : Datum) (i r : ℕ) (reply : Reply) (last : Held F) (q : Layout) → q ≡ h.plan → se < length h.sessions → view_named q name ≡ Some i → read_refusal q (view_named q name) k ≡ None → r ≡ reader_of h.plan i k
-      → IsDone log authors (wanted_at (world_of log authors h) k r (slice_get (map view_node h.views) r)) reply last
+  has_wanted : (h : Held F) (se : ℕ) (name : List ℕ) (k : Datum) (i r : ℕ) (reply : Reply) (last : Held F) → IsSought h se name k i r → IsDone log authors (wanted_at (world_of log authors h) k r (slice_get (map view_node h.views) r)) reply last
       → IsDone log authors (want_by (world_of log authors h) (slice_get (world_of log authors h).callers se) name k) reply last
-  wants h se name k i r reply last q same lt named free is done =
+  has_wanted h se name k i r reply last sought done =
       let w = world_of log authors h in
-      let s = stands h.sessions se lt in
+      let s = stands h.sessions se sought.session in
       let there : slice_get w.callers se ≡ Some (s.0).is = map_get (λ (x : Session). x.is) h.sessions se s.0 s.1 in
       let all : want_by w (slice_get w.callers se) name k ≡ wanted_at w k r (slice_get w.views r)
       = ap (λ o. want_by w o name k) there
-      ∙ (ap (want_in w (view_named w.plan name) k) (subst (λ q. read_refusal q (view_named q name) k ≡ None) same free)
-      ∙ (ap (λ v. want_in w v k None) (subst (λ q. view_named q name ≡ Some i) same named)
-      ∙ ap (λ q. wanted_at w k q (slice_get w.views q)) (sym is))) in
+      ∙ (ap (want_in w (view_named w.plan name) k) sought.free ∙ (ap (λ v. want_in w v k None) sought.named ∙ ap (λ q. wanted_at w k q (slice_get w.views q)) (sym sought.place))) in
       subst (λ x. IsDone log authors x reply last) (sym all) done
 
-  -- the arguments are refused
-  pub want_refused : (h : Held F) (se : ℕ) (name : List ℕ) (k : Datum) (e : Refused) (q : Layout) → IsPlaced log authors h → q ≡ h.plan → se < length h.sessions → read_refusal q (view_named q name) k ≡ Some e
-      → IsDone log authors (want_by (world_of log authors h) (slice_get (world_of log authors h).callers se) name k) (refused e) h
-  want_refused h se name k e q p same lt why =
-      let w = world_of log authors h in
-      let s = stands h.sessions se lt in
-      let there : slice_get w.callers se ≡ Some (s.0).is = map_get (λ (x : Session). x.is) h.sessions se s.0 s.1 in
-      let all : want_by w (slice_get w.callers se) name k ≡ says w (refused e)
-      = ap (λ o. want_by w o name k) there ∙ ap (want_in w (view_named w.plan name) k) (subst (λ q. read_refusal q (view_named q name) k ≡ Some e) same why) in
-      subst (λ x. IsDone log authors x (refused e) h) (sym all) (record { world = refl; reply = refl; placed = p })
+  -- as the event that it is
+  pub wants : {R E : Type 0} (said : R → Reply) (h : Held F) (se : ℕ) (name : List ℕ) (k : Datum) (i r : ℕ) (last : Held F) (e : Event) → e ≡ want se name k → IsSought h se name k i r → (o : Result R E)
+      → IfOk o (λ x. IsDone log authors (wanted_at (world_of log authors h) k r (slice_get (map view_node h.views) r)) (said x) last) → IfOk o (λ x. IsDone log authors (step (world_of log authors h) e) (said x) last)
+  wants said h se name k i r last e is sought (Ok x) done = subst (λ y. IsDone log authors (step (world_of log authors h) y) (said x) last) (sym is) (has_wanted h se name k i r (said x) last sought done)
+  wants said h se name k i r last e is sought (Err x) done = tt
 
-  pub want_unknown : (h : Held F) (se : ℕ) (name : List ℕ) (k : Datum) → IsPlaced log authors h → slice_get (world_of log authors h).callers se ≡ None
-      → IsDone log authors (want_by (world_of log authors h) (slice_get (world_of log authors h).callers se) name k) (refused UnknownPlace) h
-  want_unknown h se name k p none = subst (λ o. IsDone log authors (want_by (world_of log authors h) o name k) (refused UnknownPlace) h) (sym none) (record { world = refl; reply = refl; placed = p })
+  pub want_denied : (h : Held F) (se : ℕ) (name : List ℕ) (k : Datum) (x : Refused) (e : Event) → e ≡ want se name k → IsPlaced log authors h → IsDenied h se name k x → IsDone log authors (step (world_of log authors h) e) (refused x) h
+  want_denied h se name k x e is p why =
+      let w = world_of log authors h in
+      subst (λ y. IsDone log authors (step w y) (refused x) h) (sym is) (denied log authors h se name k x (λ o. want_by w o name k) refl (λ said c. ap (want_in w (view_named h.plan name) k) said) p why)

@@ -30,7 +30,7 @@ use Rattle.machine.proofs.Acks.{knows_still, session_world, session_placed}
 use Rattle.machine.proofs.Based.{with_base, base_world, own_turn, quiet_placed}
 use Rattle.world.proofs.Fenced.{called}
 use Rattle.machine.proofs.Meeting.{stands}
-use Rattle.machine.proofs.Steps.{set_are}
+use Rattle.machine.proofs.Steps.{rebased, set_are}
 
 -- ---- what a base shard answers
 -- not accepted: its log stays
@@ -192,19 +192,10 @@ module _ {F : Type 0} (log : F → LogView) (authors : F → List Author) where
           let last : two ≡ record s { own = slice_set s.own b (suc (length (base_at log authors old).authors)) } = is ∙ (ap (λ v. noted b v s) was ∙ ap (λ n. record s { own = slice_set s.own b n }) n) in
           let then : base_node log authors new ≡ record { is = d.base; runs = true } = own.node in
           let know = all_know nodes b se m e (base_node log authors old) (base_node log authors new) there (ap (λ (n : Node Base). n.is) then ∙ put.base) h.sessions s mine p.sessions in
-          record {
-            good = p.good;
-            bases = set_are (IsBaseOf log authors h.plan) (base_count h.plan) h.bases b new p.bases own.is;
-            stages = p.stages;
-            views = p.views;
-            to_stage = own.queued p.to_stage;
-            to_view = p.to_view;
-            from_view = p.from_view;
-            to_base = p.to_base;
-            sessions =
-                subst (λ t. Are (KnowsOwn (map (base_node log authors) (slice_set h.bases b new))) most_sessions (slice_set h.sessions se t)) (sym last)
-                (subst (λ ns. Are (KnowsOwn ns) most_sessions (slice_set h.sessions se (record s { own = slice_set s.own b (suc (length (base_at log authors old).authors)) }))) (sym (map_set (base_node log authors) h.bases b new)) know);
-          }
+          let here = set_are (IsBaseOf log authors h.plan) (base_count h.plan) h.bases b new p.bases own.is in
+          rebased log authors h p (slice_set h.bases b new) here ts (own.queued p.to_stage) (slice_set h.sessions se two)
+          (subst (λ t. Are (KnowsOwn (map (base_node log authors) (slice_set h.bases b new))) most_sessions (slice_set h.sessions se t)) (sym last)
+          (subst (λ ns. Are (KnowsOwn ns) most_sessions (slice_set h.sessions se (record s { own = slice_set s.own b (suc (length (base_at log authors old).authors)) }))) (sym (map_set (base_node log authors) h.bases b new)) know))
 
       -- not accepted
       still_placed : IsQuiet v → noted b v s ≡ s → IsPlaced log authors (after two)

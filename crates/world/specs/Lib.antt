@@ -1,3 +1,4 @@
 pub mod Rounds
 pub mod Noted
 pub mod Listed
+pub mod Sought

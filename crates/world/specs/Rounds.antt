@@ -2,7 +2,6 @@
 use Rattle.std.specs.Prelude.{◌≡◌, ℕ, Bool, not, List, ◌++◌}
 use Rattle.model.specs.Fronts.{LogView}
 use Rattle.model.specs.Histories.{Author}
-use Rattle.protocol.specs.Worlds.{World}
 use Rattle.protocol.specs.WorldSteps.{Did, Round, ended_by, is_idle}
 use Rattle.machine.specs.Held.{Held, IsWhole, world_of}
 

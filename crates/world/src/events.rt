@@ -1,5 +1,5 @@
 //! One event of a schedule.
-ghost use Rattle.std.specs.Prelude.{◌≡◌, IfOk};
+ghost use Rattle.std.specs.Prelude.{IfOk};
 ghost use Rattle.protocol.specs.WorldSteps.{on_edge, step};
 ghost use Rattle.protocol.specs.Edges.{wire_of};
 ghost use Rattle.schedule.specs.Codes.{event_of, reply_of};
@@ -8,9 +8,9 @@ ghost use Rattle.machine.specs.Machines.{held};
 
 use crate::counts::count;
 use crate::fences::fence;
-use crate::reads::try_read;
+use crate::reads::{look, sought};
 use crate::settles::settle;
-use crate::wants::want;
+use crate::wants::want_at;
 use crate::writes::write;
 use machine::deliveries::deliver;
 use machine::machine::Machine;
@@ -41,8 +41,14 @@ pub(crate) fn step<F: Fronts>(
             table,
             entry,
         } => write(alloc, words, machine, *session, table, entry),
-        Event::Try { session, view, key } => try_read(alloc, machine, *session, view, key),
-        Event::Want { session, view, key } => want(alloc, machine, *session, view, key),
+        Event::Try { session, view, key } => match sought(machine, *session, view, key) {
+            Ok(at) => look(alloc, machine, *session, at, key),
+            Err(refused) => Ok(Reply::Refused(refused)),
+        },
+        Event::Want { session, view, key } => match sought(machine, *session, view, key) {
+            Ok(at) => want_at(alloc, machine, at.1, key),
+            Err(refused) => Ok(Reply::Refused(refused)),
+        },
         Event::Fence { session } => fence(alloc, words, machine, *session),
         Event::Count { session, view } => Ok(count(machine, *session, view)),
         Event::Deliver { edge } => deliver_on(alloc, words, machine, *edge),

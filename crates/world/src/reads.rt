@@ -1,5 +1,5 @@
 //! Reads of a session: a filled key of a view shard.
-ghost use Rattle.std.specs.Prelude.{◌≡◌, ◌≢◌, ◌<◌, map, length, slice_get, is_some, Some, IfOk, IfSome};
+ghost use Rattle.std.specs.Prelude.{◌≡◌, ◌≢◌, ◌<◌, map, length, slice_get, is_some, Some, IfOk, IfErr, IfSome};
 ghost use Rattle.row.specs.Cells.{datum_of};
 ghost use Rattle.model.specs.Histories.{view_shard};
 ghost use Rattle.model.specs.Queries.{answer};
@@ -7,11 +7,12 @@ ghost use Rattle.partial.specs.States.{is_filled};
 ghost use Rattle.packet.specs.Readers.{readers};
 ghost use Rattle.packet.specs.declared.mode.Mode.TheVariants.{Broken};
 ghost use Rattle.protocol.specs.Worlds.{Caller};
-ghost use Rattle.protocol.specs.WorldSteps.{looked, try_by};
+ghost use Rattle.protocol.specs.WorldSteps.{looked};
 ghost use Rattle.schedule.specs.Codes.{reply_of};
 ghost use Rattle.view_domain.specs.Domains.{lines_of, view_of};
-ghost use Rattle.machine.specs.Held.{IsDone, IsPlaced, IsWhole, view_node, world_of};
+ghost use Rattle.machine.specs.Held.{IsDone, IsPlaced, view_node, world_of};
 ghost use Rattle.machine.specs.Machines.{held};
+ghost use Rattle.world.specs.Sought.{IsDenied, IsSought};
 
 use machine::machine::Machine;
 use machine::views::cut_lengths;
@@ -24,58 +25,56 @@ use schedule::event::Reply;
 use std::alloc::{AllocError, Global};
 use view_domain::view_domain::ViewDomain;
 
-/// A session tries a key of a view: a hit answers over the cut of the view shard that has the key,
-/// which is then the session's floor there. Errors: memory only; then nothing is said of the
-/// machine.
-pub(crate) fn try_read<F: Fronts>(
-    alloc: Global,
-    machine: &mut Machine<F>,
+/// The place of the view that a session names, and of the view shard that has the key. Errors: why
+/// the call is refused, for the session, the view or the key. Cost: a look at each view and at each
+/// view shard.
+pub(crate) fn sought<F: Fronts>(
+    machine: &Machine<F>,
     session: usize,
     view: &str,
     key: &Value,
-) -> Result<Reply, Refused>
-    requires whole { IsWhole F.log F.authors (held machine.old) }
-    ensures done { IfOk result (λ r. IsDone F.log F.authors
-        (try_by (world_of F.log F.authors (held machine.old)) session
-        (slice_get (world_of F.log F.authors (held machine.old)).callers session) view.now
-        (datum_of key.now)) (reply_of r) (held machine.new)) }
+) -> Result<(usize, usize), Refused>
+    ensures sought { IfOk result (λ at. IsSought (held machine.now) session view.now
+        (datum_of key.now) at.0 at.1) }
+    ensures denied { IfErr result (IsDenied (held machine.now) session view.now
+        (datum_of key.now)) }
 {
     if session >= machine.callers.len() {
-        return Ok(Reply::Refused(Refused::UnknownPlace));
+        return Err(Refused::UnknownPlace);
     }
     let place = match read_target(machine.places.plan(), view, key) {
         Ok(place) => place,
-        Err(refused) => return Ok(Reply::Refused(refused)),
+        Err(refused) => return Err(refused),
     };
     let reader = machine.places.reader_of(place, key);
-    let reply = look(alloc, machine, session, place, reader, key)?;
-    Ok(reply)
+    Ok((place, reader))
 }
 
-/// A session looks at a key of a view at the view shard that has it. Errors: memory only; then
+/// A session looks at a key of a view at the view shard that has it, by their places: a hit answers
+/// over the cut of that shard, which is then the session's floor there. Errors: memory only; then
 /// nothing is said of the machine.
-fn look<F: Fronts>(
+pub(crate) fn look<F: Fronts>(
     alloc: Global,
     machine: &mut Machine<F>,
     session: usize,
-    view: usize,
-    reader: usize,
+    at: (usize, usize),
     key: &Value,
 ) -> Result<Reply, Refused>
     requires placed { IsPlaced F.log F.authors (held machine.old) }
     requires session { session < length (held machine.old).sessions }
-    requires there { reader < length (held machine.old).views }
-    requires reader { slice_get (readers (held machine.old).plan) reader ≡ Some (record {
-      view = view;
-      shard = view_shard (held machine.old).plan view (datum_of key.now);
+    requires there { at.1 < length (held machine.old).views }
+    requires reader { slice_get (readers (held machine.old).plan) at.1 ≡ Some (record {
+      view = at.0;
+      shard = view_shard (held machine.old).plan at.0 (datum_of key.now);
     }) }
     ensures done { IfOk result (λ r. (c : Caller)
         → slice_get (world_of F.log F.authors (held machine.old)).callers session ≡ Some c
         → IsDone F.log F.authors (looked (world_of F.log F.authors (held machine.old)) session c
-        view (datum_of key.now) reader
-        (slice_get (map view_node (held machine.old).views) reader)) (reply_of r)
+        at.0 (datum_of key.now) at.1
+        (slice_get (map view_node (held machine.old).views) at.1)) (reply_of r)
         (held machine.new)) }
 {
+    let (_, reader) = at;
     let Ok(found) = find(alloc, &machine.views[reader], key) else {
         return Err(Refused::NoMemory);
     };

@@ -1,12 +1,11 @@
 //! Wants: a key of a view that is not filled is asked for.
-ghost use Rattle.std.specs.Prelude.{◌≡◌, ◌≢◌, ◌<◌, ◌&&◌, length, map, slice_get, Some, IfOk};
+ghost use Rattle.std.specs.Prelude.{◌≡◌, ◌<◌, ◌&&◌, length, map, slice_get, IfOk};
 ghost use Rattle.row.specs.Cells.{datum_of};
-ghost use Rattle.model.specs.Histories.{view_shard};
 ghost use Rattle.partial.specs.States.{is_filled};
-ghost use Rattle.protocol.specs.WorldSteps.{is_up, lower_run, want_by, wanted_at};
+ghost use Rattle.protocol.specs.WorldSteps.{is_up, lower_run, wanted_at};
 ghost use Rattle.schedule.specs.Codes.{reply_of};
 ghost use Rattle.view_domain.specs.Domains.{view_of};
-ghost use Rattle.machine.specs.Held.{IsDone, IsPlaced, IsWhole, view_node, world_of};
+ghost use Rattle.machine.specs.Held.{IsDone, IsPlaced, view_node, world_of};
 ghost use Rattle.machine.specs.Machines.{held};
 
 use crate::fences::{are_both, lower_runs};
@@ -15,41 +14,14 @@ use machine::views::{give_view, view_runs};
 use model::fronts::Fronts;
 use row::refused::Refused;
 use row::value::Value;
-use schedule::arguments::read_target;
 use schedule::event::Reply;
 use std::alloc::Global;
 use view_domain::message::ToView;
 use view_domain::view_domain::ViewDomain;
 
-/// A session wants a key of a view: where it is not filled, its view shard takes the want, if that
-/// and all below it runs. Errors: then nothing is said of the machine.
-pub(crate) fn want<F: Fronts>(
-    alloc: Global,
-    machine: &mut Machine<F>,
-    session: usize,
-    view: &str,
-    key: &Value,
-) -> Result<Reply, Refused>
-    requires whole { IsWhole F.log F.authors (held machine.old) }
-    ensures done { IfOk result (λ r. IsDone F.log F.authors
-        (want_by (world_of F.log F.authors (held machine.old))
-        (slice_get (world_of F.log F.authors (held machine.old)).callers session) view.now
-        (datum_of key.now)) (reply_of r) (held machine.new)) }
-{
-    if session >= machine.callers.len() {
-        return Ok(Reply::Refused(Refused::UnknownPlace));
-    }
-    let place = match read_target(machine.places.plan(), view, key) {
-        Ok(place) => place,
-        Err(refused) => return Ok(Reply::Refused(refused)),
-    };
-    let reader = machine.places.reader_of(place, key);
-    let reply = want_at(alloc, machine, reader, key)?;
-    Ok(reply)
-}
-
-/// A key is wanted of a view shard. Errors: then nothing is said of the machine.
-fn want_at<F: Fronts>(
+/// A key is wanted of a view shard: where it is not filled, the shard takes the want, if that and
+/// all below it runs. Errors: then nothing is said of the machine.
+pub(crate) fn want_at<F: Fronts>(
     alloc: Global,
     machine: &mut Machine<F>,
     reader: usize,

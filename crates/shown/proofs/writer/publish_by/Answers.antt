@@ -1,7 +1,5 @@
 use Rattle.std.proofs.Common.{subst, sym}
-use Rattle.shown.specs.Boards.{state_by}
 use Rattle.shown.specs.Snapshots.{Snapshot, IsLater, IsTrue}
-use Rattle.shown.specs.Sights.{ahead}
 use Rattle.shown.proofs.Rises.{rises}
 use Rattle.shown.proofs.writer.publish_by.Goals as goal
 

@@ -1,4 +1,4 @@
-use Rattle.std.proofs.Common.{◌∙◌, ap, sym, subst, OnErr}
+use Rattle.std.proofs.Common.{◌∙◌, ap, sym}
 use Rattle.std.specs.Map.{set_value}
 use Rattle.row.specs.Groups.{equal}
 use Rattle.partial.proofs.Reversed.{on_ok_from, on_ok_always}
