@@ -28,11 +28,6 @@ pub record IsFront (p : Layout) (f : FrontView) : Type 0 where
   pub base : f.base < base_count p
   pub len : f.len ≤ length (log_of f.base f.seen)
 
--- the history goes on from the front's, and its log has all of the front's entries
-pub record IsReached (h : List Item) (f : FrontView) : Type 0 where
-  pub seen : IsPrefix f.seen h
-  pub len : f.len ≤ length (log_of f.base h)
-
 -- the entry is one of this shard's, the front's entries allow it, and the session's number is greater than those before
 pub record MayAppend (p : Layout) (f : FrontView) (s m : ℕ) (e : Change) : Type 0 where
   pub fits : fits (layout_of p f.base) e ≡ true

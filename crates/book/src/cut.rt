@@ -1,10 +1,8 @@
 //! Cuts: lengths of fronts, and one history for all of them.
-ghost use Rattle.std.specs.Prelude.{◌≡◌, ◌≢◌, ◌<◌, ◌≤◌, [], IsTrue, IsFalse, length, map, replicate, slice_index_or, slice_set, take, IfOk};
+ghost use Rattle.std.specs.Prelude.{◌≡◌, ◌≢◌, ◌<◌, IsTrue, IsFalse, length, replicate, IfOk};
 ghost use mathlib.Core.List.{IsPrefix};
-ghost use Rattle.row.specs.Bags.{Each};
 ghost use Rattle.model.specs.Histories.{len_at};
-ghost use Rattle.book.specs.Fronts.{FrontView, IsReached, entries};
-ghost use Rattle.book.specs.Pages.{IsLogOf, history_of};
+ghost use Rattle.book.specs.Fronts.{entries};
 ghost use Rattle.model.specs.Cuts.{IsWithin};
 ghost use Rattle.model.specs.Places.{base_count, sources as sources_of, source_at};
 ghost use Rattle.book.specs.Sessions.{fronts};
@@ -68,30 +66,6 @@ impl<J: Naming> Model for Cuts<J> {
 }
 
 impl<J: Naming> Cuts<J> {
-    /// For each shard of each view the cut at which each stage shard has these fronts, one of each
-    /// source. Errors: memory only.
-    pub fn even(
-        alloc: Global,
-        plan: &Plan,
-        part: &Part<J>,
-        fronts: &[Front<J>],
-    ) -> Result<Cuts<J>, AllocError>
-        requires plan { plan.now ≡ J.plan }
-        requires sources { map (λ (f : FrontView). f.base) fronts.now ≡ sources_of J.plan }
-        ensures floors { IfOk result (λ c. c.floors
-            ≡ even_floors J.plan (map (λ (f : FrontView). f.len) fronts.now)) }
-        ensures seen { IfOk result (λ c. IsPrefix part.now c.seen) }
-        ensures fronts { IfOk result (λ c. Each (IsReached c.seen) fronts.now) }
-    {
-        let (line, seen) = line_of_fronts(alloc, part, fronts)?;
-        let floors = Floors::even(alloc, plan, line.as_slice())?;
-        Ok(Cuts {
-            floors,
-            seen,
-            of: PhantomData,
-        })
-    }
-
     /// For each shard of each view the cut of no entries. Errors: memory only.
     pub fn zeros(alloc: Global, plan: &Plan, part: &Part<J>) -> Result<Cuts<J>, AllocError>
         requires plan { plan.now ≡ J.plan }
@@ -99,8 +73,14 @@ impl<J: Naming> Cuts<J> {
             ≡ even_floors J.plan (replicate (length (sources_of J.plan)) 0)) }
         ensures seen { IfOk result (λ c. IsPrefix part.now c.seen) }
     {
-        let fronts = no_entries(alloc, plan, part)?;
-        Cuts::even(alloc, plan, part, fronts.as_slice())
+        let seen = part.whole();
+        let line = no_entries(alloc, plan)?;
+        let floors = Floors::even(alloc, plan, line.as_slice())?;
+        Ok(Cuts {
+            floors,
+            seen,
+            of: PhantomData,
+        })
     }
 
     /// Takes a cut for a shard of a view. The other cuts stay.
@@ -117,70 +97,15 @@ impl<J: Naming> Cuts<J> {
     }
 }
 
-// The empty front of each source.
-fn no_entries<J: Naming>(
-    alloc: Global,
-    plan: &Plan,
-    part: &Part<J>,
-) -> Result<Vec<Front<J>>, AllocError>
-    requires plan { plan.now ≡ J.plan }
-    ensures bases { IfOk result (λ v. map (λ (f : FrontView). f.base) v.items
-        ≡ sources_of J.plan) }
-    ensures lens { IfOk result (λ v. map (λ (f : FrontView). f.len) v.items
-        ≡ replicate (length (sources_of J.plan)) 0) }
+// No entry of each source.
+fn no_entries(alloc: Global, plan: &Plan) -> Result<Vec<u64>, AllocError>
+    ensures { IfOk result (λ v. v.items ≡ replicate (length (sources_of plan.now)) 0) }
 {
-    let mut fronts = Vec::new(alloc);
-    for base in &sources(alloc, plan)? {
-        fronts.push(part.front(*base))?;
-    }
-    Ok(fronts)
-}
-
-// The length of each front, and a history in which all of them were reached.
-fn line_of_fronts<J: Naming>(
-    alloc: Global,
-    part: &Part<J>,
-    fronts: &[Front<J>],
-) -> Result<(Vec<u64>, Seen<LogPage, u64, Law>), AllocError>
-    ensures line { IfOk result (λ r. r.0.items ≡ map (λ (f : FrontView). f.len) fronts.now) }
-    ensures book { IfOk result (λ r. r.1.book ≡ J.book) }
-    ensures log { IfOk result (λ r. IsLogOf J.plan J.sessions r.1.log) }
-    ensures part { IfOk result (λ r. IsPrefix part.now (history_of r.1.log)) }
-    ensures fronts { IfOk result (λ r. Each (IsReached (history_of r.1.log)) fronts.now) }
-{
-    let mut line = Vec::new(alloc);
-    let mut seen = part.whole();
-    for front in fronts {
-        line.push(front.len)?;
-        learn::<J>(&mut seen, &front.seen);
-    }
-    Ok((line, seen))
+    let count = sources(alloc, plan)?.len();
+    vec![in alloc; 0; count]
 }
 
 impl<J: Naming> Cut<J> {
-    /// The cut at which each stage shard has these fronts, one of each source. Errors: memory only.
-    pub fn even(
-        alloc: Global,
-        plan: &Plan,
-        part: &Part<J>,
-        fronts: &[Front<J>],
-    ) -> Result<Cut<J>, AllocError>
-        requires plan { plan.now ≡ J.plan }
-        requires sources { map (λ (f : FrontView). f.base) fronts.now ≡ sources_of J.plan }
-        ensures lengths { IfOk result (λ c. c.lengths
-            ≡ replicate J.plan.stages (map (λ (f : FrontView). f.len) fronts.now)) }
-        ensures seen { IfOk result (λ c. IsPrefix part.now c.seen) }
-        ensures fronts { IfOk result (λ c. Each (IsReached c.seen) fronts.now) }
-    {
-        let (line, seen) = line_of_fronts(alloc, part, fronts)?;
-        let lengths = Lengths::even(alloc, plan.stages(), line.as_slice())?;
-        Ok(Cut {
-            lengths,
-            seen,
-            of: PhantomData,
-        })
-    }
-
     /// Its lengths, which were reached in what was seen: one for each stage shard and source.
     pub fn lengths(&self) -> &Lengths
         ensures lengths { result.now ≡ self.now.lengths }
@@ -218,8 +143,14 @@ impl<J: Naming> Cut<J> {
             ≡ replicate J.plan.stages (replicate (length (sources_of J.plan)) 0)) }
         ensures seen { IfOk result (λ c. IsPrefix part.now c.seen) }
     {
-        let fronts = no_entries(alloc, plan, part)?;
-        Cut::even(alloc, plan, part, fronts.as_slice())
+        let seen = part.whole();
+        let line = no_entries(alloc, plan)?;
+        let lengths = Lengths::even(alloc, plan.stages(), line.as_slice())?;
+        Ok(Cut {
+            lengths,
+            seen,
+            of: PhantomData,
+        })
     }
 
     /// The front of a source at a stage shard.

@@ -1,5 +1,5 @@
 //! Fronts: what is known of one log.
-ghost use Rattle.std.specs.Prelude.{◌≡◌, ℕ, ◌+◌, ◌<◌, ◌≤◌, [], ◌∷◌, length, OnErr, OnOk};
+ghost use Rattle.std.specs.Prelude.{◌≡◌, ◌+◌, ◌<◌, ◌≤◌, length, OnErr, OnOk};
 ghost use mathlib.Core.List.{IsPrefix};
 ghost use Rattle.model.specs.Entries.{change_of};
 ghost use Rattle.book.specs.Fronts.{FrontView, entries, authors, IsAppended, IsMoved, MayAppend};

@@ -1,5 +1,5 @@
 //! What a session knows from the front of a reply.
-ghost use Rattle.std.specs.Prelude.{◌≡◌, ◌<◌, ◌≤◌, length, MatchBool, IfSome, IsSome, IsTrue};
+ghost use Rattle.std.specs.Prelude.{◌≡◌, ◌<◌, ◌≤◌, MatchBool, IfSome, IsSome, IsTrue};
 ghost use mathlib.Core.List.{IsPrefix};
 ghost use Rattle.book.specs.Replies.{HasLogOf, IsPlaced, IsWhole};
 

@@ -1,5 +1,5 @@
 //! The word of a session.
-ghost use Rattle.std.specs.Prelude.{◌≡◌, ◌+◌, ◌<◌, ◌≤◌, ◌^◌, ◌⊎◌, length, None, OnErr, OnOk, IfOk, ℕ, []};
+ghost use Rattle.std.specs.Prelude.{◌≡◌, ◌+◌, ◌<◌, ◌^◌, length, None, OnErr, OnOk, IfOk, ℕ, []};
 ghost use mathlib.Core.List.{IsPrefix};
 ghost use Rattle.row.specs.Bags.{Each};
 ghost use Rattle.row.specs.Cells.{datum_of};

@@ -1,5 +1,5 @@
 //! The three kinds of step on a shared book.
-ghost use Rattle.std.specs.Prelude.{◌≡◌, ◌+◌, ◌<◌, ◌≤◌, ◌^◌, None, OnErr, OnOk};
+ghost use Rattle.std.specs.Prelude.{◌≡◌, ◌+◌, ◌<◌, ◌^◌, None, OnErr, OnOk};
 ghost use mathlib.Core.List.{IsPrefix};
 ghost use Rattle.book.specs.Pages.{IsLogOf, IsAsk, IsDone, history_of};
 ghost use Rattle.model.specs.Places.{base_count};

@@ -135,13 +135,11 @@ fn adds<J: Naming>(
     requires plan { (plan.now ≡ J.plan) × (J.plan ≡ notes_plan) }
     requires word { IsFresh 0 word }
 {
-    let mut fronts = Vec::new(alloc);
-    fronts.push(start.front(0))?;
     if let Scene::Fence = scene {
-        let cuts = Cuts::even(alloc, plan, start, fronts.as_slice())?;
+        let cuts = Cuts::zeros(alloc, plan, start)?;
         Ok(word.fence(book, &Vec::new(alloc), cuts).is_ok())
     } else {
-        let cut = Cut::even(alloc, plan, start, fronts.as_slice())?;
+        let cut = Cut::zeros(alloc, plan, start)?;
         let answered = word.answer(book, 0, 0, &Value::Int(7), &Vec::new(alloc), cut);
         Ok(answered.is_ok())
     }

@@ -1,5 +1,5 @@
 //! Values, rows, bags, and rows by a column.
-ghost use Rattle.std.specs.Prelude.{◌≡◌, ◌∷◌, [], List, IfOk, pos};
+ghost use Rattle.std.specs.Prelude.{◌≡◌, ◌∷◌, [], List, IfOk};
 ghost use Rattle.row.specs.Cells.{Cells, int};
 ghost use Rattle.row.specs.Changes.{IsCovered};
 ghost use Rattle.row.specs.Groups.{wide};
