@@ -3,7 +3,7 @@ ghost use Rattle.std.specs.Prelude.{◌≡◌, ◌⊎◌, IfErr};
 
 use book::law::Naming;
 use links::bell::Woken;
-use routes::mail::Want;
+use routes::mail::{ViewMail, Want};
 use routes::routes::Routes;
 use row::refused::Refused;
 use row::value::Value;
@@ -34,7 +34,7 @@ pub fn fill<J: Naming, R: Wait>(
         key: key.try_clone(alloc)?,
         waits: key.try_clone(alloc)?,
     };
-    routes.want(rt, reader, want)?;
+    routes.to_view(rt, session, reader, ViewMail::Want(want))?;
     for _ in rt.forever() {
         match routes.wait_ring(rt, session, number) {
             Woken::Rung => return Ok(()),

@@ -8,7 +8,6 @@ ghost use Rattle.model.specs.Histories.{write};
 ghost use Rattle.model.specs.Logs.{fits, key_of};
 ghost use Rattle.model.specs.Places.{base_count, layout_of, shard_of};
 ghost use Rattle.base_domain.specs.Received.{last_number};
-ghost use Rattle.book.specs.Fronts.{FrontView};
 ghost use Rattle.book.specs.Replies.{IsAfter, IsWhole};
 ghost use Rattle.routes.specs.Mails.{HasFront};
 

@@ -1,5 +1,5 @@
 -- What comes to a base shard, and replies.
-use Rattle.std.specs.Prelude.{◌≡◌, ℕ, [], Option, Some, None}
+use Rattle.std.specs.Prelude.{◌≡◌, ℕ, [], Some, None}
 use Rattle.plan.specs.Layouts.{Layout}
 use Rattle.model.specs.Fronts.{LogView}
 use Rattle.packet.specs.Answers.{AnswerView}

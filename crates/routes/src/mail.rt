@@ -1,11 +1,13 @@
 //! What comes to domains and sessions in a running store.
-ghost use Rattle.std.specs.Prelude.{◌≡◌, ◌<◌, true, None, IfSome, IsSome};
+ghost use Rattle.std.specs.Prelude.{◌≡◌, ◌<◌, true};
 ghost use Rattle.row.specs.Cells.{shard};
 ghost use Rattle.model.specs.Entries.{change_of};
 ghost use Rattle.model.specs.Logs.{fits, key_of};
 ghost use Rattle.model.specs.Places.{layout_of, shard_of};
 ghost use Rattle.base_domain.specs.Codes.{message_of};
 ghost use Rattle.base_domain.specs.Received.{IsFor, last_number};
+ghost use Rattle.packet.specs.Codes.{mark_of};
+ghost use Rattle.protocol.specs.Bases.{write as write_to, request as request_to, marker as marker_to};
 ghost use Rattle.routes.specs.Mails.{empty_log, HasFront};
 
 use base_domain::message::{ToBase, Write};
@@ -49,6 +51,7 @@ impl<J: Naming> BaseMail<J> {
         requires shard { shard_of J.plan base ≡ shard (key_of (layout_of J.plan base).key
             (change_of entry)) (layout_of J.plan base).shards }
         ensures base { result.base ≡ base }
+        ensures message { result.message ≡ write_to session number (change_of entry) }
     {
         let write = Write {
             session,
@@ -66,6 +69,7 @@ impl<J: Naming> BaseMail<J> {
     pub fn request(base: usize, stage: usize, request: Request) -> BaseMail<J>
         requires stage { stage < J.plan.stages }
         ensures base { result.base ≡ base }
+        ensures message { result.message ≡ request_to stage request }
     {
         BaseMail {
             base,
@@ -77,6 +81,7 @@ impl<J: Naming> BaseMail<J> {
     /// The marker of a fence to a base shard.
     pub fn marker(base: usize, marker: Marker) -> BaseMail<J>
         ensures base { result.base ≡ base }
+        ensures message { result.message ≡ marker_to (mark_of marker) }
     {
         BaseMail {
             base,

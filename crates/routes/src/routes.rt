@@ -1,11 +1,11 @@
 //! What the threads of a store share, and the ways between them.
-ghost use Rattle.std.specs.Prelude.{◌≡◌, ◌⊎◌, ◌<◌, IfErr, IfOk, map};
+ghost use Rattle.std.specs.Prelude.{◌≡◌, ◌⊎◌, ◌<◌, IfErr, map};
 ghost use Rattle.row.specs.Bags.{Each};
 ghost use Rattle.model.specs.Places.{base_count, sources};
 ghost use Rattle.packet.specs.Readers.{readers};
 ghost use Rattle.schedule.specs.Codes.{reader_in};
 
-use crate::mail::{BaseMail, Reply, ViewMail, Want};
+use crate::mail::{BaseMail, Reply, ViewMail};
 use book::book::Book;
 use book::front::Front;
 use book::law::Naming;
@@ -14,13 +14,10 @@ use links::inbox::Inbox;
 use links::mailbox::Mailbox;
 use links::stops::Stops;
 use model::places;
-use packet::base_packet::BasePacket;
 use packet::reader::Reader;
 use packet::request::{Marker, Request};
-use packet::stage_packet::StagePacket;
 use plan::plan::Plan;
 use row::refused::Refused;
-use row::value::Value;
 use schedule::readers;
 use schedule::wire::Spot;
 use stage_steps::message::ToStage;
@@ -154,34 +151,6 @@ impl<J: Naming> Routes<J> {
         put(rt, self.bases.get(mail.base()), edge, mail)
     }
 
-    /// Sends a source's packet to a stage shard, as `to_base`.
-    pub fn source_to_stage<R: Wait>(
-        &self,
-        rt: &R,
-        source: usize,
-        stage: usize,
-        packet: BasePacket<Front<J>>,
-    ) -> Result<(), Refused>
-        ensures only { IfErr result (λ e. (e ≡ Refused.NoMemory) ⊎ (e ≡ Refused.Stopped)) }
-    {
-        let message = ToStage::Packet { source, packet };
-        put(rt, self.stages.get(stage), source, message)
-    }
-
-    /// Sends a view shard's request to a stage shard, as `to_base`.
-    pub fn view_to_stage<R: Wait>(
-        &self,
-        rt: &R,
-        reader: usize,
-        stage: usize,
-        request: Request,
-    ) -> Result<(), Refused>
-        ensures only { IfErr result (λ e. (e ≡ Refused.NoMemory) ⊎ (e ≡ Refused.Stopped)) }
-    {
-        let edge = self.sources.len().saturating_add(reader);
-        put(rt, self.stages.get(stage), edge, ToStage::Request(request))
-    }
-
     /// Sends a stage shard's request to a source, as `to_base`.
     pub fn stage_to_source<R: Wait>(
         &self,
@@ -200,55 +169,42 @@ impl<J: Naming> Routes<J> {
         put(rt, self.bases.get(*base), stage, mail)
     }
 
-    /// Sends a stage shard's packet to a view shard, as `to_base`.
-    pub fn stage_to_view<R: Wait>(
+    /// Sends a message to a stage shard, as `to_base`: a packet from a source, a request from a
+    /// view shard, or an order from a session.
+    pub fn to_stage<R: Wait>(
         &self,
         rt: &R,
+        from: usize,
         stage: usize,
-        reader: usize,
-        packet: StagePacket<Front<J>>,
+        message: ToStage<Front<J>>,
     ) -> Result<(), Refused>
         ensures only { IfErr result (λ e. (e ≡ Refused.NoMemory) ⊎ (e ≡ Refused.Stopped)) }
     {
-        let mail = ViewMail::Packet { stage, packet };
-        put(rt, self.views.get(reader), stage, mail)
+        let (sources, views) = (self.sources.len(), self.views.len());
+        let edge = match &message {
+            ToStage::Packet { .. } => from,
+            ToStage::Request(_) => sources.saturating_add(from),
+            ToStage::Order(_) => sources.saturating_add(views).saturating_add(from),
+        };
+        put(rt, self.stages.get(stage), edge, message)
     }
 
-    /// Sends a session's want to a view shard, as `to_base`.
-    pub fn want<R: Wait>(&self, rt: &R, reader: usize, want: Want) -> Result<(), Refused>
-        ensures only { IfErr result (λ e. (e ≡ Refused.NoMemory) ⊎ (e ≡ Refused.Stopped)) }
-    {
-        let edge = self.stages.len().saturating_add(want.session);
-        put(rt, self.views.get(reader), edge, ViewMail::Want(want))
-    }
-
-    /// Sends a session's order to evict a stage key to a stage shard, as `to_base`.
-    pub fn order_stage<R: Wait>(
+    /// Sends what comes to a view shard, as `to_base`: a packet from a stage shard, or what a
+    /// session wants or orders.
+    pub fn to_view<R: Wait>(
         &self,
         rt: &R,
-        session: usize,
-        stage: usize,
-        key: Value,
-    ) -> Result<(), Refused>
-        ensures only { IfErr result (λ e. (e ≡ Refused.NoMemory) ⊎ (e ≡ Refused.Stopped)) }
-    {
-        let asking = self.sources.len().saturating_add(self.views.len());
-        let edge = asking.saturating_add(session);
-        put(rt, self.stages.get(stage), edge, ToStage::Order(key))
-    }
-
-    /// Sends a session's order to evict a key to a view shard, as `to_base`.
-    pub fn order_view<R: Wait>(
-        &self,
-        rt: &R,
-        session: usize,
+        from: usize,
         reader: usize,
-        key: Value,
+        mail: ViewMail<J>,
     ) -> Result<(), Refused>
         ensures only { IfErr result (λ e. (e ≡ Refused.NoMemory) ⊎ (e ≡ Refused.Stopped)) }
     {
-        let edge = self.stages.len().saturating_add(session);
-        put(rt, self.views.get(reader), edge, ViewMail::Order { key })
+        let edge = match &mail {
+            ViewMail::Packet { .. } => from,
+            ViewMail::Want(_) | ViewMail::Order { .. } => self.stages.len().saturating_add(from),
+        };
+        put(rt, self.views.get(reader), edge, mail)
     }
 
     /// Gives a session the reply to its write. It takes no memory.
@@ -337,15 +293,9 @@ impl<J: Naming> Routes<J> {
 
     /// Closes all inboxes: what was sent is still taken, and nothing more can be sent.
     pub fn close<R: Wait>(&self, rt: &R) {
-        for inbox in &self.bases {
-            inbox.close(rt);
-        }
-        for inbox in &self.stages {
-            inbox.close(rt);
-        }
-        for inbox in &self.views {
-            inbox.close(rt);
-        }
+        close_all(rt, self.bases.as_slice());
+        close_all(rt, self.stages.as_slice());
+        close_all(rt, self.views.as_slice());
     }
 
     // The place of a domain's flag: the base shards come first, then the stage shards.
@@ -373,15 +323,9 @@ impl<J: Naming> Routes<J> {
 
     // Wakes all who wait, to look what has stopped.
     fn alarm<R: Wait>(&self, rt: &R) {
-        for mailbox in &self.replies {
-            mailbox.alarm(rt);
-        }
-        for mailbox in &self.acks {
-            mailbox.alarm(rt);
-        }
-        for mailbox in &self.started {
-            mailbox.alarm(rt);
-        }
+        alarm_all(rt, self.replies.as_slice());
+        alarm_all(rt, self.acks.as_slice());
+        alarm_all(rt, self.started.as_slice());
         for bell in &self.bells {
             bell.alarm(rt);
         }
@@ -404,6 +348,18 @@ fn put<T: Drop, R: Wait>(
         Ok(()) => Ok(()),
         Err(unsent) if unsent.refused == Refused::NoMemory => Err(Refused::NoMemory),
         Err(_) => Err(Refused::Stopped),
+    }
+}
+
+fn close_all<T: Drop, R: Wait>(rt: &R, inboxes: &[Inbox<T>]) {
+    for inbox in inboxes {
+        inbox.close(rt);
+    }
+}
+
+fn alarm_all<T: Drop, R: Wait>(rt: &R, mailboxes: &[Mailbox<T>]) {
+    for mailbox in mailboxes {
+        mailbox.alarm(rt);
     }
 }
 
