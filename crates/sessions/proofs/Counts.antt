@@ -1,5 +1,5 @@
 -- Counts of requests, one view shard after the other.
-use Rattle.std.proofs.Common.{◌≡◌, ℕ, zero, suc, ◌+◌, ◌<◌, ◌≤◌, ◌==◌, Bool, true, false, cond, min, nat_le, List, [], ◌∷◌, ◌++◌, map, length, slice_get, slice_set, take, Some, Result, Ok, Err, IfOk, refl, ap, sym, ◌∙◌, subst, arith}
+use Rattle.std.proofs.Common.{◌≡◌, ℕ, zero, suc, ◌+◌, ◌<◌, ◌≤◌, ◌==◌, Bool, true, false, cond, min, nat_le, List, [], ◌∷◌, ◌++◌, map, length, slice_get, slice_set, take, Some, Result, Ok, Err, IfOk, refl, ap, sym, ◌∙◌, arith}
 use Rattle.std.proofs.Math.Nat.{min-eq_left, min-eq_right}
 use Rattle.std.proofs.lemmas.Bool.Decides.{nat_tests}
 use Rattle.row.specs.declared.refused.Refused.{Refused}

@@ -1,10 +1,10 @@
 -- Fences: their places, their cuts, and the session afterwards.
-use Rattle.std.proofs.Common.{◌≡◌, ℕ, zero, suc, ◌+◌, ◌<◌, ◌≤◌, List, [], ◌∷◌, ◌++◌, length, map, flat_map, slice_get, slice_index_or, Option, Some, None, refl, ap, sym, ◌∙◌, subst, arith, append_assoc, length-append}
+use Rattle.std.proofs.Common.{◌≡◌, ℕ, zero, suc, ◌+◌, ◌<◌, ◌≤◌, List, [], ◌∷◌, ◌++◌, length, map, flat_map, slice_index_or, Option, Some, None, refl, ap, sym, ◌∙◌, subst, arith, append_assoc, length-append}
 use Rattle.std.proofs.lemmas.List.{length-map}
 use mathlib.Core.List.{IsPrefix}
 use Rattle.row.specs.Bags.{Each}
 use Rattle.row.proofs.BagLemmas.{Each-weaker}
-use Rattle.plan.specs.Layouts.{Layout, view_at}
+use Rattle.plan.specs.Layouts.{Layout}
 use Rattle.model.specs.Places.{sources, source_at}
 use Rattle.model.specs.Histories.{Item, fence, Place, Lengths, Floors, len_at, floor_at, log_of}
 use Rattle.model.specs.Cuts.{IsAtMost}
@@ -16,8 +16,8 @@ use Rattle.book.specs.Sessions.{FloorsView, own_word, own_items}
 use Rattle.packet.specs.Readers.{Reader}
 use Rattle.protocol.proofs.Lists.{each_at}
 use Rattle.shown.specs.Snapshots.{Snapshot}
-use Rattle.sessions.specs.Callers.{Caller, AreLater, IsAbove, IsCaller, IsLooking, IsSight, accepted_at, whole_cut}
-use Rattle.sessions.specs.Fences.{place_of, own_places, IsFloored, IsFlooredByShown, IsFenced}
+use Rattle.sessions.specs.Callers.{Caller, IsAbove, IsCaller, IsLooking, accepted_at, whole_cut}
+use Rattle.sessions.specs.Fences.{place_of, own_places, IsFenced}
 use Rattle.sessions.specs.Sights.{HasAll, IsCovering, IsCut}
 use Rattle.sessions.proofs.Callers.{wrote_later, wrote_within, caller_later, whole_later}
 use Rattle.sessions.proofs.Cuts.{each_get}

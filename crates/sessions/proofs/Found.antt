@@ -1,7 +1,7 @@
 -- What one look finds, and the sessions that a call leaves so.
 use Rattle.std.proofs.Common.{◌≡◌, ◌⊎◌, ℕ, zero, suc, ◌<◌, true, List, [], ◌∷◌, map, length, get_or, slice_get, slice_set, position, Option, Some, None, Result, Ok, Err, IfOk, IfErr, IfSome, OnOk, refl, ap, sym, ◌∙◌, subst, arith, inl, inr}
 use Rattle.std.proofs.lemmas.List.{length-map}
-use Rattle.row.specs.Cells.{Datum, Cells, datum_of}
+use Rattle.row.specs.Cells.{Cells, datum_of}
 use Rattle.row.specs.declared.refused.Refused.{Refused}
 use Rattle.row.specs.declared.refused.Refused.TheVariants.{NoMemory, Stopped, Busy, Behind}
 use Rattle.row.specs.declared.value.Value.{Value}
@@ -19,11 +19,11 @@ use Rattle.shown.specs.Snapshots.{Snapshot, IsLater, IsTrue, shown_at}
 use Rattle.shown.specs.declared.reader.Look.{Look}
 use Rattle.shown.specs.declared.reader.Look.TheVariants.{Hit, Miss}
 use Rattle.sessions.specs.Callers.{Caller, AreLater, IsSight, reader_of}
-use Rattle.sessions.specs.Reads.{HasLooked, IsHidden, IsUnanswered, IsUnread}
+use Rattle.sessions.specs.Reads.{HasLooked, IsHidden, IsUnanswered, IsUndone, IsUnread}
 use Rattle.sessions.specs.Fences.{IsUnfenced}
 use Rattle.sessions.specs.Sights.{Finds, IsCutAt}
-use Rattle.sessions.proofs.Later.{all_readers, all_self, all_set, reader_same, sight_of}
-use Rattle.sessions.proofs.Looks.{looked_again, looked_unread}
+use Rattle.sessions.proofs.Later.{all_readers, all_self, all_set, reader_same, sight_of, sight_within}
+use Rattle.sessions.proofs.Looks.{looked_again, looked_undone}
 use Rattle.sessions.proofs.Shards.{reader_in_all}
 use Rattle.protocol.proofs.Lists.{set_at}
 
@@ -51,6 +51,12 @@ pub not_none : (o : Option ℕ) (n : ℕ) → o ≡ None → o ≡ Some n → �
 not_none o n a b = cc (sym a ∙ b)
 
 -- ---- one look
+-- what is looked at afterwards
+pub record HasLookedAt (p : Layout) (shown : List Snapshot) (n v j : ℕ) (y : Snapshot) : Type 0 where
+  pub later : AreLater shown (slice_set shown n y)
+  pub shards : map reader_of (slice_set shown n y) ≡ readers p
+  pub sight : IsSight (slice_set shown n y) v j y
+
 module _ (p : Layout) (shown : List Snapshot) (n v j : ℕ) (x y : Snapshot) where
   pub look_later : slice_get shown n ≡ Some x → IsLater x y → AreLater shown (slice_set shown n y)
   look_later there later = all_set shown n x y there later
@@ -64,6 +70,11 @@ module _ (p : Layout) (shown : List Snapshot) (n v j : ℕ) (x y : Snapshot) whe
     there = set_at shown n y x there;
     of = reader_same x y later ∙ sight_of p shown are n v j x there at;
   }
+
+  pub looked_at : map reader_of shown ≡ readers p → slice_get (readers p) n ≡ Some (record { view = v; shard = j }) → x ≡ get_or shown n x → IsLater x y → HasLookedAt p shown n v j y
+  looked_at are at is later =
+      let there = got_at shown n x (sight_within p shown are n _ at) is in
+      record { later = look_later there later; shards = look_are are there later; sight = look_sight are at there later }
 
 module _ (p : Layout) (shown : List Snapshot) (v : ℕ) (key : Value) (y : Snapshot) where
   truth_at : (rows : List Cells) → IsTrue p y → reader_of y ≡ record { view = v; shard = view_shard p v (datum_of key) } → shown_at y.rows (datum_of key) ≡ Some rows → rows ≡ answer p y.cut v (datum_of key)
@@ -88,15 +99,18 @@ module _ (p : Layout) (shown : List Snapshot) (v : ℕ) (key : Value) (y : Snaps
 pub same_looked : (c : Caller) → HasLooked c c
 same_looked c = record { looked = all_self c.shown; after = refl }
 
-pub quiet : (c : Caller) (e : Refused) → (e ≡ NoMemory) ⊎ (e ≡ Stopped) → IsUnanswered c c e
-quiet c e (inl m) = inl (record { after = refl; looked = all_self c.shown; number = inl refl; grown = prefix_self c.seen; why = inl (m, refl, refl) })
-quiet c e (inr s) = inr (inl s, same_looked c)
+undone : (P : Refused → Type 0) (c : Caller) (e : Refused) → P e → IsUndone P c c e
+undone P c e m = record { after = refl; looked = all_self c.shown; number = inl refl; grown = prefix_self c.seen; why = inl (m, refl, refl) }
 
 pub unread : (c : Caller) (e : Refused) → e ≡ NoMemory → IsUnread c c e
-unread c e m = record { after = refl; looked = all_self c.shown; number = inl refl; grown = prefix_self c.seen; why = inl (m, refl, refl) }
+unread = undone (λ e. e ≡ NoMemory)
+
+pub quiet : (c : Caller) (e : Refused) → (e ≡ NoMemory) ⊎ (e ≡ Stopped) → IsUnanswered c c e
+quiet c e (inl m) = inl (unread c e m)
+quiet c e (inr s) = inr (inl s, same_looked c)
 
 pub looked_unanswered : (p : Layout) (old mid new : Caller) (e : Refused) → HasLooked old mid → IsUnanswered mid new e → IsUnanswered old new e
-looked_unanswered p old mid new e x (inl u) = inl (looked_unread p old mid new x e u)
+looked_unanswered p old mid new e x (inl u) = inl (looked_undone p old mid new x e u)
 looked_unanswered p old mid new e x (inr r) = inr (r.0, looked_again p old mid new x r.1)
 
 pub within : (p : Layout) (xs : List Code) (shown : List Snapshot) (n : ℕ) → map reader_in xs ≡ readers p → map reader_of shown ≡ readers p → n < length xs → n < length shown
@@ -119,7 +133,7 @@ cut_there p shown n x y there later (Err e) h = tt
 
 -- ---- fences
 pub unfenced : (c : Caller) (e : Refused) → e ≡ NoMemory → IsUnfenced c c e
-unfenced c e m = record { after = refl; looked = all_self c.shown; grown = prefix_self c.seen; number = inl refl; why = inl (inl m, refl, refl) }
+unfenced c e m = undone (λ r. (r ≡ NoMemory) ⊎ (r ≡ Stopped) ⊎ (r ≡ Behind)) c e (inl m)
 
 pub unsent : (e : Refused) → (e ≡ NoMemory) ⊎ (e ≡ Stopped) → (e ≡ NoMemory) ⊎ (e ≡ Stopped) ⊎ (e ≡ Behind)
 unsent e (inl a) = inl a

@@ -4,5 +4,6 @@ mod Callers
 mod Cuts
 mod Looks
 mod Found
+mod Words
 mod Floored
 pub mod Counts

@@ -6,12 +6,12 @@ use mathlib.Core.List.{IsPrefix}
 use Rattle.row.specs.Bags.{Each}
 use Rattle.row.specs.Cells.{Datum, Cells}
 use Rattle.row.specs.declared.refused.Refused.{Refused}
-use Rattle.plan.specs.Layouts.{Layout, view_at}
+use Rattle.plan.specs.Layouts.{Layout}
 use Rattle.model.specs.Cuts.{IsAtMost, IsWithin}
 use Rattle.model.specs.Histories.{Item, read, Lengths, Floors, len_at, floor_at, view_shard, log_of}
 use Rattle.model.specs.Places.{sources, source_at}
 use Rattle.model.specs.Tables.{with_floor}
-use Rattle.model.proofs.Growth.{at_most_self, at_most_trans, at_most_none, log_grows}
+use Rattle.model.proofs.Growth.{at_most_self, at_most_none, log_grows}
 use Rattle.model.proofs.CutLaws.{same_in}
 use Rattle.model.proofs.Prefixes.{prefix_length}
 use Rattle.book.specs.Pages.{IsAdded}
@@ -20,8 +20,8 @@ use Rattle.packet.specs.Readers.{Reader, readers}
 use Rattle.protocol.proofs.Lists.{each_at, each_of}
 use Rattle.shown.specs.Snapshots.{Snapshot}
 use Rattle.sessions.specs.Callers.{Caller, AreLater, IsAbove, IsCaller, IsLooking, IsSight, reader_of, whole_cut}
-use Rattle.sessions.specs.Reads.{HasLooked, IsMissed, IsRead, IsUnread, Shows}
-use Rattle.sessions.specs.Fences.{IsFenced, IsUnfenced}
+use Rattle.sessions.specs.Reads.{HasLooked, IsRead, IsUndone, Shows}
+use Rattle.sessions.specs.Fences.{IsFenced}
 use Rattle.sessions.proofs.Callers.{caller_later}
 use Rattle.sessions.proofs.Cuts.{each_get, floor_with}
 use Rattle.sessions.proofs.Later.{above_later, all_readers, all_self, all_trans, sight_once}
@@ -162,8 +162,8 @@ module _ (p : Layout) (old mid new : Caller) (x : HasLooked old mid) where
     after = rw (session_same, number_same, answered_same, stolen_same, seen_same, accepted_same, floors_same) at r.after;
   }
 
-  pub looked_unread : (r : Refused) → IsUnread mid new r → IsUnread old new r
-  looked_unread r u = record {
+  pub looked_undone : {P : Refused → Type 0} → (r : Refused) → IsUndone P mid new r → IsUndone P old new r
+  looked_undone r u = record {
     after = rw (session_same, answered_same, accepted_same, floors_same) at u.after;
     looked = all_trans old.shown mid.shown new.shown x.looked u.looked;
     number = rw number_same at u.number;
@@ -181,13 +181,4 @@ module _ (p : Layout) (old mid new : Caller) (x : HasLooked old mid) where
     shown = r.shown;
     after = rw (session_same, number_same, answered_same, stolen_same, accepted_same) at r.after;
     looked = all_trans old.shown mid.shown new.shown x.looked r.looked;
-  }
-
-  pub looked_unfenced : (r : Refused) → IsUnfenced mid new r → IsUnfenced old new r
-  looked_unfenced r u = record {
-    after = rw (session_same, answered_same, accepted_same, floors_same) at u.after;
-    looked = all_trans old.shown mid.shown new.shown x.looked u.looked;
-    grown = rw seen_same at u.grown;
-    number = rw number_same at u.number;
-    why = rw (seen_same, stolen_same) at u.why;
   }

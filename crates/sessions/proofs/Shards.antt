@@ -1,5 +1,5 @@
 -- The shards of all views: each stands once among the readers, and each is there.
-use Rattle.std.proofs.Common.{◌≡◌, ◌≢◌, ℕ, zero, suc, ◌+◌, ◌<◌, ◌≤◌, ◌==◌, true, false, List, [], ◌∷◌, ◌++◌, map, flat_map, length, slice_get, position, Some, refl, ap, sym, ◌∙◌, subst, arith}
+use Rattle.std.proofs.Common.{◌≡◌, ◌≢◌, ℕ, zero, suc, ◌+◌, ◌<◌, ◌≤◌, ◌==◌, true, List, [], ◌∷◌, ◌++◌, map, flat_map, length, slice_get, position, Some, refl, ap, sym, ◌∙◌, subst, arith}
 use Rattle.std.specs.List.{range_with_len}
 use Rattle.row.specs.Bags.{Each}
 use Rattle.plan.specs.Layouts.{Layout, view_at}
@@ -7,7 +7,7 @@ use Rattle.packet.specs.Readers.{Reader, is_reader, readers, readers_of}
 use Rattle.schedule.specs.Codes.{reader_in}
 use Rattle.packet.specs.declared.reader.Reader.{Reader as Code}
 use Rattle.protocol.proofs.Lists.{each_at, each_map, each_to, map_get}
-use Rattle.protocol.proofs.Spots.{IsIn, IsPlace, each_append, each_range, found, is_found, is_same, in_flat, range_get, reader_found, same_is, both_true}
+use Rattle.protocol.proofs.Spots.{IsIn, each_append, each_range, found, is_same, in_flat, range_get, same_is, both_true}
 
 -- two shards are not one
 abbrev pub Differs : Reader → Reader → Type 0

@@ -1,9 +1,9 @@
 -- What a fence does to its session.
-use Rattle.std.specs.Prelude.{◌≡◌, ◌⊎◌, ℕ, ◌+◌, ◌<◌, ◌≤◌, true, List, [], ◌∷◌, flat_map, length, Option, Some, None}
+use Rattle.std.specs.Prelude.{◌≡◌, ◌⊎◌, ℕ, ◌+◌, ◌<◌, ◌≤◌, List, [], ◌∷◌, flat_map, length, Option, Some, None}
 use mathlib.Core.List.{IsPrefix}
 use Rattle.row.specs.Bags.{Each}
 use Rattle.row.specs.declared.refused.Refused.{Refused}
-use Rattle.row.specs.declared.refused.Refused.TheVariants.{NoMemory, Stopped, Behind, Stolen}
+use Rattle.row.specs.declared.refused.Refused.TheVariants.{NoMemory, Stopped, Behind}
 use Rattle.plan.specs.Layouts.{Layout}
 use Rattle.model.specs.Places.{sources, source_at}
 use Rattle.model.specs.Histories.{Item, fence, Place, len_at, floor_at, log_of}
@@ -11,6 +11,7 @@ use Rattle.model.specs.Legal.{EachShard}
 use Rattle.book.specs.Pages.{IsAdded}
 use Rattle.book.specs.Sessions.{own_word, own_items}
 use Rattle.sessions.specs.Callers.{Caller, accepted_at, AreLater}
+use Rattle.sessions.specs.Reads.{IsUndone}
 
 -- the place of an index, where there is one
 abbrev pub place_of : ℕ → Option ℕ → List Place
@@ -40,10 +41,6 @@ pub record IsFenced (p : Layout) (old new : Caller) : Type 0 where
   pub after : new ≡ record old { number = old.number + 1; answered = old.answered + 1; seen = new.seen; floors = new.floors; shown = new.shown }
   pub looked : AreLater old.shown new.shown
 
--- a refused fence leaves the floors and what was accepted, and all that was seen, but where the word was moved by another
-pub record IsUnfenced (old new : Caller) (r : Refused) : Type 0 where
-  pub after : new ≡ record old { number = new.number; stolen = new.stolen; seen = new.seen; shown = new.shown }
-  pub looked : AreLater old.shown new.shown
-  pub grown : IsPrefix old.seen new.seen
-  pub number : (new.number ≡ old.number) ⊎ (new.number ≡ old.number + 1)
-  pub why : ((r ≡ NoMemory) ⊎ (r ≡ Stopped) ⊎ (r ≡ Behind)) × (new.seen ≡ old.seen) × (new.stolen ≡ old.stolen) ⊎ (r ≡ Stolen) × (new.stolen ≡ true)
+-- a fence is refused so
+abbrev pub IsUnfenced : Caller → Caller → Refused → Type 0
+IsUnfenced old new r = IsUndone (λ e. (e ≡ NoMemory) ⊎ (e ≡ Stopped) ⊎ (e ≡ Behind)) old new r

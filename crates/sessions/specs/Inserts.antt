@@ -1,5 +1,5 @@
 -- What a write does to its session, and when it is refused.
-use Rattle.std.specs.Prelude.{◌≡◌, ◌⊎◌, ℕ, ◌+◌, ◌<◌, nat_le, ◌||◌, cond, List, Option, Some, None, slice_set}
+use Rattle.std.specs.Prelude.{◌≡◌, ◌⊎◌, ℕ, ◌+◌, ◌<◌, nat_le, ◌||◌, cond, List, Option, Some, None, slice_set, Result, Err, IfOk, IfErr, IfSome}
 use Rattle.row.specs.Cells.{shard}
 use Rattle.row.specs.declared.refused.Refused.{Refused}
 use Rattle.row.specs.declared.refused.Refused.TheVariants.{NoMemory, Stopped, Stolen}
@@ -7,6 +7,7 @@ use Rattle.plan.specs.Layouts.{Layout, table_at, table_named}
 use Rattle.model.specs.Logs.{Change, key_of}
 use Rattle.model.specs.Places.{base_at}
 use Rattle.model.specs.Histories.{write}
+use Rattle.model.specs.Legal.{IsLegal}
 use Rattle.model.specs.Refusals.{write_refusal}
 use Rattle.book.specs.Replies.{IsAfter}
 use Rattle.base_domain.specs.Received.{last_number}
@@ -58,3 +59,11 @@ pub record IsUntaken (p : Layout) (old new : Caller) (b : ℕ) (e : Change) (r :
 pub data Declines (p : Layout) (old new : Caller) (name : List ℕ) (e : Change) (r : Refused) : Type 0 where
   asked : call_refusal p old name e ≡ Some r → new ≡ old → Declines p old new name e r
   untaken : call_refusal p old name e ≡ None → (t : ℕ) → table_named p name ≡ Some t → IsUntaken p old new (base_of p t e) e r → Declines p old new name e r
+
+-- what a write to the named table comes to, of so many sessions: what was seen is legal, a session that is spent answers Stolen and stays, and else the write is refused for what it asks, accepted, or declined
+pub record Writes (p : Layout) (sessions : ℕ) (old new : Caller) (name : List ℕ) (e : Change) (r : Result Accepted Refused) : Type 0 where
+  pub legal : IsLegal p sessions new.seen
+  pub spent : stolen_refusal old ≡ Some Stolen → (r ≡ Err Stolen) × (new ≡ old)
+  pub why : IfSome (call_refusal p old name e) (λ x. r ≡ Err x)
+  pub accepted : IfOk r (λ a. Accepts p old new name e a)
+  pub refused : IfErr r (λ x. Declines p old new name e x)

@@ -1,5 +1,5 @@
 -- What a read does to its session.
-use Rattle.std.specs.Prelude.{◌≡◌, ◌⊎◌, ℕ, ◌+◌, true, List, Option, Some, None}
+use Rattle.std.specs.Prelude.{◌≡◌, ◌⊎◌, ℕ, ◌+◌, true, List, Option, Some, None, Result, Err, IfOk, IfErr, IfSome}
 use mathlib.Core.List.{IsPrefix}
 use Rattle.row.specs.Cells.{Datum, Cells}
 use Rattle.row.specs.declared.refused.Refused.{Refused}
@@ -7,6 +7,7 @@ use Rattle.row.specs.declared.refused.Refused.TheVariants.{NoMemory, Stopped, Bu
 use Rattle.plan.specs.Layouts.{Layout, view_named}
 use Rattle.model.specs.Histories.{Item, read, Lengths, floor_at, view_shard}
 use Rattle.model.specs.Cuts.{IsAtMost}
+use Rattle.model.specs.Legal.{IsLegal}
 use Rattle.model.specs.Queries.{answer}
 use Rattle.model.specs.Refusals.{read_refusal}
 use Rattle.model.specs.Tables.{with_floor}
@@ -15,6 +16,7 @@ use Rattle.book.specs.Sessions.{own_word, own_items}
 use Rattle.shown.specs.Snapshots.{Snapshot, shown_at}
 use Rattle.sessions.specs.Callers.{Caller, AreLater, IsSight}
 use Rattle.sessions.specs.Inserts.{first_of, stolen_refusal}
+use Rattle.sessions.specs.declared.reads.Answer.{Answer}
 use Rattle.sessions.specs.declared.reads.Found.{Found}
 use Rattle.sessions.specs.declared.reads.Found.TheVariants.{Hit, Miss}
 
@@ -79,14 +81,33 @@ pub record Misses (p : Layout) (old new : Caller) (name : List ℕ) (k : Datum) 
   pub named : view_named p name ≡ Some view
   pub missed : IsMissed p old new view k
 
--- a refused read leaves the floors and what was accepted; and all that was seen, but where the word was moved by another
-pub record IsUnread (old new : Caller) (r : Refused) : Type 0 where
+-- a call that is refused leaves the floors and what was accepted; and all that was seen, where the refusal is of the store, but not where the word was moved by another
+pub record IsUndone (OfStore : Refused → Type 0) (old new : Caller) (r : Refused) : Type 0 where
   pub after : new ≡ record old { number = new.number; stolen = new.stolen; seen = new.seen; shown = new.shown }
   pub looked : AreLater old.shown new.shown
   pub number : (new.number ≡ old.number) ⊎ (new.number ≡ old.number + 1)
   pub grown : IsPrefix old.seen new.seen
-  pub why : (r ≡ NoMemory) × (new.seen ≡ old.seen) × (new.stolen ≡ old.stolen) ⊎ (r ≡ Stolen) × (new.stolen ≡ true)
+  pub why : OfStore r × (new.seen ≡ old.seen) × (new.stolen ≡ old.stolen) ⊎ (r ≡ Stolen) × (new.stolen ≡ true)
+
+-- a read is refused so
+abbrev pub IsUnread : Caller → Caller → Refused → Type 0
+IsUnread old new r = IsUndone (λ e. e ≡ NoMemory) old new r
 
 -- a read that waits is refused so too, or it has only looked
 abbrev pub IsUnanswered : Caller → Caller → Refused → Type 0
 IsUnanswered old new r = IsUnread old new r ⊎ ((r ≡ Stopped) ⊎ (r ≡ Busy)) × HasLooked old new
+
+-- what a try of a read of the named view comes to, of so many sessions: what was seen is legal, and it is refused for what it asks, a hit, a miss, or refused so
+pub record Tries (p : Layout) (sessions : ℕ) (old new : Caller) (name : List ℕ) (k : Datum) (r : Result Found Refused) : Type 0 where
+  pub legal : IsLegal p sessions new.seen
+  pub why : IfSome (asked_refusal p old name k) (λ e. (r ≡ Err e) × (new ≡ old))
+  pub hit : IfOk r (OnHit (λ rows cut. Reads p old new name k rows cut))
+  pub miss : IfOk r (OnMiss (Misses p old new name k))
+  pub refused : IfErr r (λ e. (asked_refusal p old name k ≡ Some e) ⊎ IsUnread old new e)
+
+-- what a read of the named view that waits comes to, of so many sessions: what was seen is legal, and it is refused for what it asks, answered, or refused so
+pub record Answers (p : Layout) (sessions : ℕ) (old new : Caller) (name : List ℕ) (k : Datum) (r : Result Answer Refused) : Type 0 where
+  pub legal : IsLegal p sessions new.seen
+  pub why : IfSome (asked_refusal p old name k) (λ e. (r ≡ Err e) × (new ≡ old))
+  pub answer : IfOk r (λ a. Reads p old new name k a.rows.items a.cut)
+  pub refused : IfErr r (λ e. (asked_refusal p old name k ≡ Some e) ⊎ IsUnanswered old new e)

@@ -8,10 +8,12 @@ ghost use Rattle.sessions.specs.Reads.{HasLooked, asked_refusal};
 use crate::reads::key_place;
 use crate::session::Session;
 use book::law::Naming;
+use routes::mail::ViewMail;
 use row::refused::Refused;
 use row::value::Value;
 use schedule::arguments::{read_target, stage_target, view_target};
 use schedule::wire::Spot;
+use stage_steps::message::ToStage;
 use std::alloc::Global;
 use std::sync::Wait;
 
@@ -45,7 +47,8 @@ impl<J: Naming> Session<J> {
         let Ok(key) = key.try_clone(alloc) else {
             return Err(Refused::NoMemory);
         };
-        self.routes.order_stage(rt, self.word.number(), stage, key)
+        self.routes
+            .to_stage(rt, self.word.number(), stage, ToStage::Order(key))
     }
 
     /// Orders the key's view shard to evict a key of a view. It is answered once the order is sent,
@@ -79,7 +82,8 @@ impl<J: Naming> Session<J> {
         let Ok(key) = key.try_clone(alloc) else {
             return Err(Refused::NoMemory);
         };
-        self.routes.order_view(rt, self.word.number(), place, key)
+        self.routes
+            .to_view(rt, self.word.number(), place, ViewMail::Order { key })
     }
 
     /// How many requests the shards of a view had sent, in all, as they are now shown; at most the

@@ -1,11 +1,10 @@
 //! Reads of a session.
-ghost use Rattle.std.specs.Prelude.{◌≡◌, ◌⊎◌, ◌<◌, IfOk, OnOk, IfErr, IfSome, Some, length, map};
+ghost use Rattle.std.specs.Prelude.{◌≡◌, ◌⊎◌, ◌<◌, IfOk, OnOk, IfErr, IfSome, Some, length};
 ghost use Rattle.std.specs.Prelude.{slice_get};
 ghost use Rattle.row.specs.Cells.{datum_of};
 ghost use Rattle.plan.specs.Layouts.{view_at};
 ghost use Rattle.shown.specs.Looks.{OnHit as OnShown, OnMiss as OnHidden};
 ghost use Rattle.model.specs.Histories.{view_shard};
-ghost use Rattle.model.specs.Legal.{IsLegal};
 ghost use Rattle.base_domain.specs.Received.{last_number};
 ghost use Rattle.packet.specs.Readers.{readers};
 ghost use Rattle.sessions.specs.Reads.{IsHidden};
@@ -35,6 +34,9 @@ pub struct Answer {
     pub cut: Lengths,
 }
 
+/// What a read comes to: an answer, or why it is refused.
+pub type Reading = Result<Answer, Refused>;
+
 /// What a try of a read found: an answer, or that the key is not shown.
 #[derive(Drop)]
 pub enum Found {
@@ -43,8 +45,8 @@ pub enum Found {
 }
 
 impl<J: Naming> Session<J> {
-    ghost use Rattle.sessions.specs.Reads.{HasLooked, IsMissed, IsRead, IsUnanswered, IsUnread};
-    ghost use Rattle.sessions.specs.Reads.{Misses, OnHit, OnMiss, Reads, asked_refusal};
+    ghost use Rattle.sessions.specs.Reads.{Answers, HasLooked, IsMissed, IsRead, IsUnanswered, IsUnread};
+    ghost use Rattle.sessions.specs.Reads.{Misses, OnHit, OnMiss, Reads, Tries, asked_refusal};
     ghost use Rattle.sessions.specs.Sights.{Finds};
 
     /// Looks a key of a view up in what is shown, and makes a hit an answer, as one step. It waits
@@ -58,15 +60,7 @@ impl<J: Naming> Session<J> {
     /// leaves the floors and what was accepted, and but for `Stolen` what was seen. Cost: a look at
     /// each view's name, one look-up, a copy of the rows and two of the cut.
     pub fn try_read(&mut self, alloc: Global, view: &str, key: &Value) -> Result<Found, Refused>
-        ensures legal { IsLegal J.plan J.sessions self.new.seen }
-        ensures why { IfSome (asked_refusal J.plan self.old view.now (datum_of key.now))
-            (λ e. (result ≡ Err e) × (self.new ≡ self.old)) }
-        ensures hit { IfOk result (OnHit (λ rows cut.
-            Reads J.plan self.old self.new view.now (datum_of key.now) rows cut)) }
-        ensures miss { IfOk result (OnMiss
-            (Misses J.plan self.old self.new view.now (datum_of key.now))) }
-        ensures refused { IfErr result (λ e. (asked_refusal J.plan self.old view.now
-            (datum_of key.now) ≡ Some e) ⊎ IsUnread self.old self.new e) }
+        ensures { Tries J.plan J.sessions self.old self.new view.now (datum_of key.now) result }
     {
         let answer = self.try_view(alloc, view, key);
         self.seen.is_legal();
@@ -170,33 +164,15 @@ impl<J: Naming> Session<J> {
     /// of the session's waits are spent. A refused read leaves the floors and what was accepted,
     /// and but for `Stolen` what was seen. Cost: for each miss that of a look-up, two copies of the
     /// key, one message and one wait.
-    pub fn read<R: Wait>(
-        &mut self,
-        rt: &R,
-        alloc: Global,
-        view: &str,
-        key: &Value,
-    ) -> Result<Answer, Refused>
-        ensures legal { IsLegal J.plan J.sessions self.new.seen }
-        ensures why { IfSome (asked_refusal J.plan self.old view.now (datum_of key.now))
-            (λ e. (result ≡ Err e) × (self.new ≡ self.old)) }
-        ensures answer { IfOk result (λ a.
-            Reads J.plan self.old self.new view.now (datum_of key.now) a.rows.items a.cut) }
-        ensures refused { IfErr result (λ e. (asked_refusal J.plan self.old view.now
-            (datum_of key.now) ≡ Some e) ⊎ IsUnanswered self.old self.new e) }
+    pub fn read<R: Wait>(&mut self, rt: &R, alloc: Global, view: &str, key: &Value) -> Reading
+        ensures { Answers J.plan J.sessions self.old self.new view.now (datum_of key.now) result }
     {
         let answer = self.read_view(rt, alloc, view, key);
         self.seen.is_legal();
         answer
     }
 
-    fn read_view<R: Wait>(
-        &mut self,
-        rt: &R,
-        alloc: Global,
-        view: &str,
-        key: &Value,
-    ) -> Result<Answer, Refused>
+    fn read_view<R: Wait>(&mut self, rt: &R, alloc: Global, view: &str, key: &Value) -> Reading
         ensures why { IfSome (asked_refusal J.plan self.old view.now (datum_of key.now))
             (λ e. (result ≡ Err e) × (self.new ≡ self.old)) }
         ensures answer { IfOk result (λ a.
@@ -212,13 +188,7 @@ impl<J: Naming> Session<J> {
     }
 
     // Tries, and asks and waits at each miss.
-    fn read_by_turns<R: Wait>(
-        &mut self,
-        rt: &R,
-        alloc: Global,
-        view: usize,
-        key: &Value,
-    ) -> Result<Answer, Refused>
+    fn read_by_turns<R: Wait>(&mut self, rt: &R, alloc: Global, view: usize, key: &Value) -> Reading
         requires view { view < length J.plan.views }
         requires number { self.old.number < last_number }
         ensures answer { IfOk result (λ a.

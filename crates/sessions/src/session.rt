@@ -1,6 +1,6 @@
 //! Sessions: what one caller holds of the store.
 ghost use Rattle.std.specs.Prelude.{◌≡◌, ◌⊎◌, ◌+◌, ◌<◌, ◌≤◌, ℕ, true, false, length, map, replicate};
-ghost use Rattle.std.specs.Prelude.{slice_get, slice_set, IfOk, OnOk, IfErr, IfSome, IsTrue, IsFalse};
+ghost use Rattle.std.specs.Prelude.{IfOk, IfErr, IfSome, IsTrue, IsFalse};
 ghost use Rattle.std.specs.Prelude.{Some, None, []};
 ghost use mathlib.Core.List.{IsPrefix};
 ghost use Rattle.row.specs.Cells.{datum_of, shard};
@@ -43,6 +43,9 @@ pub struct Accepted {
     pub index: u64,
 }
 
+/// What a write comes to: where it stands, or why it is refused.
+pub type Written = Result<Accepted, Refused>;
+
 /// What one caller holds of the store. It can move to another thread.
 #[derive(Drop)]
 pub struct Session<J: Naming> {
@@ -75,7 +78,7 @@ impl<J: Naming> Model for Session<J> {
 
 impl<J: Naming> Session<J> {
     ghost use Rattle.sessions.specs.Callers.{Caller, reader_of};
-    ghost use Rattle.sessions.specs.Inserts.{Accepts, Declines, IsRefused, IsTaken, IsUntaken};
+    ghost use Rattle.sessions.specs.Inserts.{Accepts, Declines, IsRefused, IsTaken, IsUntaken, Writes};
     ghost use Rattle.sessions.specs.Inserts.{call_refusal, stolen_refusal};
 
     /// The session of this word, which has answered nothing and made no call. It has a reader of
@@ -140,44 +143,16 @@ impl<J: Naming> Session<J> {
     /// and what was accepted; after `Duplicate` and `LogFull` the session has seen the log that
     /// decided, else what it had. Cost: a look at each table's name, a copy of the row and one of
     /// its key, one message and one reply.
-    pub fn insert<R: Wait>(
-        &mut self,
-        rt: &R,
-        alloc: Global,
-        table: &str,
-        row: Row,
-    ) -> Result<Accepted, Refused>
-        ensures legal { IsLegal J.plan J.sessions self.new.seen }
-        ensures spent { stolen_refusal self.old ≡ Some Refused.Stolen
-            → (result ≡ Err Refused.Stolen) × (self.new ≡ self.old) }
-        ensures why { IfSome (call_refusal J.plan self.old table.now (inserts row))
-            (λ e. result ≡ Err e) }
-        ensures accepted { IfOk result (λ a.
-            Accepts J.plan self.old self.new table.now (inserts row) a) }
-        ensures refused { IfErr result (λ e.
-            Declines J.plan self.old self.new table.now (inserts row) e) }
+    pub fn insert<R: Wait>(&mut self, rt: &R, alloc: Global, table: &str, row: Row) -> Written
+        ensures { Writes J.plan J.sessions self.old self.new table.now (inserts row) result }
     {
         self.write(rt, alloc, table, Entry::Insert(row))
     }
 
     /// Puts a row in the place of the row of its key, as `insert`, with `Absent` in the place of
     /// `Duplicate`: where no row has the key.
-    pub fn update<R: Wait>(
-        &mut self,
-        rt: &R,
-        alloc: Global,
-        table: &str,
-        row: Row,
-    ) -> Result<Accepted, Refused>
-        ensures legal { IsLegal J.plan J.sessions self.new.seen }
-        ensures spent { stolen_refusal self.old ≡ Some Refused.Stolen
-            → (result ≡ Err Refused.Stolen) × (self.new ≡ self.old) }
-        ensures why { IfSome (call_refusal J.plan self.old table.now (updates row))
-            (λ e. result ≡ Err e) }
-        ensures accepted { IfOk result (λ a.
-            Accepts J.plan self.old self.new table.now (updates row) a) }
-        ensures refused { IfErr result (λ e.
-            Declines J.plan self.old self.new table.now (updates row) e) }
+    pub fn update<R: Wait>(&mut self, rt: &R, alloc: Global, table: &str, row: Row) -> Written
+        ensures { Writes J.plan J.sessions self.old self.new table.now (updates row) result }
     {
         self.write(rt, alloc, table, Entry::Update(row))
     }
@@ -185,43 +160,16 @@ impl<J: Naming> Session<J> {
     /// Takes the row of a key away, as `insert`, with `BadKey` in the place of `BadRow`, where the
     /// key is no cell of the key column, and `Absent` in the place of `Duplicate`, where no row has
     /// it.
-    pub fn delete<R: Wait>(
-        &mut self,
-        rt: &R,
-        alloc: Global,
-        table: &str,
-        key: Value,
-    ) -> Result<Accepted, Refused>
-        ensures legal { IsLegal J.plan J.sessions self.new.seen }
-        ensures spent { stolen_refusal self.old ≡ Some Refused.Stolen
-            → (result ≡ Err Refused.Stolen) × (self.new ≡ self.old) }
-        ensures why { IfSome (call_refusal J.plan self.old table.now (deletes (datum_of key)))
-            (λ e. result ≡ Err e) }
-        ensures accepted { IfOk result (λ a.
-            Accepts J.plan self.old self.new table.now (deletes (datum_of key)) a) }
-        ensures refused { IfErr result (λ e.
-            Declines J.plan self.old self.new table.now (deletes (datum_of key)) e) }
+    pub fn delete<R: Wait>(&mut self, rt: &R, alloc: Global, table: &str, key: Value) -> Written
+        ensures { Writes J.plan J.sessions self.old self.new table.now (deletes (datum_of key))
+            result }
     {
         self.write(rt, alloc, table, Entry::Delete(key))
     }
 
     /// Writes an entry to the table of this name, as `insert`, `update` or `delete` does.
-    pub fn write<R: Wait>(
-        &mut self,
-        rt: &R,
-        alloc: Global,
-        table: &str,
-        entry: Entry,
-    ) -> Result<Accepted, Refused>
-        ensures legal { IsLegal J.plan J.sessions self.new.seen }
-        ensures spent { stolen_refusal self.old ≡ Some Refused.Stolen
-            → (result ≡ Err Refused.Stolen) × (self.new ≡ self.old) }
-        ensures why { IfSome (call_refusal J.plan self.old table.now (change_of entry))
-            (λ e. result ≡ Err e) }
-        ensures accepted { IfOk result (λ a.
-            Accepts J.plan self.old self.new table.now (change_of entry) a) }
-        ensures refused { IfErr result (λ e.
-            Declines J.plan self.old self.new table.now (change_of entry) e) }
+    pub fn write<R: Wait>(&mut self, rt: &R, alloc: Global, table: &str, entry: Entry) -> Written
+        ensures { Writes J.plan J.sessions self.old self.new table.now (change_of entry) result }
     {
         let answer = self.write_fitting(rt, alloc, table, entry);
         self.seen.is_legal();
@@ -235,7 +183,7 @@ impl<J: Naming> Session<J> {
         alloc: Global,
         table: &str,
         entry: Entry,
-    ) -> Result<Accepted, Refused>
+    ) -> Written
         ensures spent { stolen_refusal self.old ≡ Some Refused.Stolen
             → (result ≡ Err Refused.Stolen) × (self.new ≡ self.old) }
         ensures why { IfSome (call_refusal J.plan self.old table.now (change_of entry))

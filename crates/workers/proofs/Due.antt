@@ -1,18 +1,16 @@
 -- A message that is for a domain is of the logs that it holds.
-use Rattle.std.proofs.Common.{◌≡◌, ◌≢◌, ◌⊎◌, inl, inr, ℕ, zero, suc, ◌<◌, List, [], ◌∷◌, map, length, Option, Some, None, slice_get, slice_index_or, refl, ap, sym, ◌∙◌, subst, arith}
+use Rattle.std.proofs.Common.{◌≡◌, ℕ, zero, suc, ◌<◌, List, [], ◌∷◌, length, Some, slice_get, slice_index_or, refl, ap, sym, ◌∙◌, subst, arith}
 use Rattle.row.specs.Bags.{Each}
 use Rattle.plan.specs.Facts.{Facts}
 use Rattle.plan.specs.Layouts.{Layout}
 use Rattle.model.specs.Fronts.{LogView}
-use Rattle.model.specs.Logs.{Change}
 use Rattle.model.specs.Places.{sources}
 use Rattle.packet.specs.Lines.{AreOf, IsOf, entries_of, no_log, plan_of}
-use Rattle.packet.specs.Messages.{BasePacketView, Mark, Piece, StagePacketView}
+use Rattle.packet.specs.Messages.{StagePacketView}
 use Rattle.packet.specs.Truth.{Pointwise}
-use Rattle.protocol.specs.Stages.{ToStage, packet, request, order, Done}
-use Rattle.protocol.specs.StageSteps.{step}
+use Rattle.protocol.specs.Stages.{ToStage, packet, request, order}
 use Rattle.protocol.proofs.Lists.{each_at}
-use Rattle.stage_domain.specs.Domains.{Meets, stage_of}
+use Rattle.stage_domain.specs.Domains.{Meets}
 use Rattle.stage_domain.specs.Domains.{Domain as StageDomain}
 use Rattle.stage_steps.proofs.Lines.{some_source}
 use Rattle.view_domain.specs.Codes.{GoesWith, IsFrom}

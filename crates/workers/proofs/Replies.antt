@@ -8,9 +8,9 @@ use Rattle.book.specs.Fronts.{FrontView, authors}
 use Rattle.packet.specs.Answers.{AnswerView}
 use Rattle.packet.specs.Messages.{none_of}
 use Rattle.packet.specs.Outboxes.{OutboxView, packets_on}
-use Rattle.protocol.specs.Bases.{ToBase, write, request, marker, Verdict, accepted, declined}
+use Rattle.protocol.specs.Bases.{ToBase, write, request, marker, accepted, declined}
 use Rattle.base_domain.specs.Domains.{Domain}
-use Rattle.base_domain.specs.Received.{Fails, Goes, HasMoved, IsAnswered, IsCutShort, IsDone, IsRefused, IsWrite, Shows, on_write, verdict_in, verdict_of}
+use Rattle.base_domain.specs.Received.{IsAnswered, IsCutShort, IsWrite, verdict_in, verdict_of}
 use Rattle.routes.specs.Mails.{BaseMailView, HasFront}
 use Rattle.workers.specs.BaseTurns.{IsTaken, IsUntaken, Went, done_by, log_in, with_reply}
 

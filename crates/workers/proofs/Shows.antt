@@ -1,9 +1,8 @@
 -- A shown copy after a change that leads from what was held to what is held.
-use Rattle.std.proofs.Common.{◌≡◌, ◌≢◌, ◌≤◌, ℕ, zero, suc, Bool, true, false, cond, if◌then◌else◌, not, List, [], ◌∷◌, Option, Some, None, IfSome, fold, filter, map, length, slice_get, slice_set, slice_index_or, refl, ap, sym, ◌∙◌, subst, arith, ◌⊎◌, inl, inr}
-use Rattle.std.specs.Map.{lookup}
+use Rattle.std.proofs.Common.{◌≡◌, ◌≢◌, ℕ, zero, suc, Bool, true, false, cond, if◌then◌else◌, not, List, [], ◌∷◌, Option, Some, None, IfSome, fold, map, length, slice_get, slice_set, refl, ap, sym, ◌∙◌, subst, arith, ◌⊎◌, inl, inr}
 use Rattle.std.specs.Option.{option_map}
 use Rattle.row.specs.BagChanges.{with_records}
-use Rattle.row.specs.Cells.{Datum, Cells, datum_of, same}
+use Rattle.row.specs.Cells.{Datum, datum_of, same}
 use Rattle.row.specs.Groups.{equal}
 use Rattle.row.specs.declared.record.Record.{Record}
 use Rattle.row.specs.declared.refused.Refused.{Refused}
@@ -30,7 +29,7 @@ use Rattle.shown.specs.Snapshots.{Rows, Snapshot, IsLater, IsTrue, after, length
 use Rattle.view_domain.specs.Domains.{Domain, lines_of, stopped}
 use Rattle.view_domain.specs.Outboxes.{OutboxView, ShownView, put_line}
 use Rattle.view_domain.specs.Received.{AreAnswers, Fails, IsNext, IsNextLine, IsShown}
-use Rattle.view_domain.specs.Shown.{key_in, rows_at, shown_after}
+use Rattle.view_domain.specs.Shown.{key_in, shown_after}
 use Rattle.view_domain.specs.Shown.{turned as turned_by}
 use Rattle.view_domain.specs.declared.shown.KeyChange.{KeyChange}
 use Rattle.view_domain.specs.declared.shown.KeyChange.TheVariants.{Fills, Turns, Goes}

@@ -1,5 +1,5 @@
 -- Edges on which no message waits.
-use Rattle.std.proofs.Common.{◌≡◌, ◌≢◌, ℕ, zero, suc, ◌+◌, ◌<◌, ◌≤◌, false, true, List, [], ◌∷◌, Option, Some, None, IfSome, drop, length, slice_get, slice_set, slice_index_or, refl, ap, sym, ◌∙◌, subst, arith}
+use Rattle.std.proofs.Common.{◌≡◌, ℕ, zero, suc, ◌+◌, ◌<◌, ◌≤◌, false, List, [], ◌∷◌, Option, Some, None, IfSome, drop, length, slice_get, slice_set, slice_index_or, refl, sym, ◌∙◌, subst, arith}
 use borrow.Author.Count.{below_more}
 use Rattle.links.specs.Queued.{holds_any}
 use Rattle.workers.specs.Turns.{IsFirst}

@@ -1,5 +1,5 @@
 -- What a domain is before its first message.
-use Rattle.std.specs.Prelude.{◌≡◌, ℕ, false, List, [], map, replicate}
+use Rattle.std.specs.Prelude.{ℕ, false, List, [], map, replicate}
 use Rattle.plan.specs.Layouts.{Layout}
 use Rattle.model.specs.Fronts.{LogView}
 use Rattle.model.specs.Places.{sources}

@@ -1,5 +1,5 @@
 -- Who waits for keys of a view shard.
-use Rattle.std.specs.Prelude.{◌≡◌, ℕ, List, Option, Some, None, cond, is_some, map}
+use Rattle.std.specs.Prelude.{List, Option, Some, None, cond, is_some}
 use Rattle.row.specs.Cells.{Cells}
 use Rattle.row.specs.declared.value.Value.{Value}
 use Rattle.partial.specs.States.{Kept}

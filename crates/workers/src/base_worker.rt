@@ -1,5 +1,5 @@
 //! The thread of a base shard.
-ghost use Rattle.std.specs.Prelude.{◌≡◌, ◌<◌, false, length, IfErr, IfOk};
+ghost use Rattle.std.specs.Prelude.{◌≡◌, ◌<◌, false, length};
 ghost use Rattle.base_domain.specs.Received.{Stays};
 ghost use Rattle.packet.specs.Outboxes.{IsClear};
 ghost use Rattle.workers.specs.BaseTurns.{Went, log_in};
@@ -8,12 +8,12 @@ use crate::base_turns::{BaseTurn, take_base};
 use crate::fresh::fresh_base;
 use crate::gate::Gate;
 use crate::turns::Turns;
+use crate::worker::{Worker, send_each};
 use base_domain::base_domain::BaseDomain;
 use book::front::Front;
 use book::law::Naming;
 use book::log::Log;
 use model::places::place_of;
-use packet::base_packet::BasePacket;
 use packet::outbox::Outbox;
 use plan::domain::DomainId;
 use plan::plan::Plan;
@@ -21,6 +21,7 @@ use routes::mail::BaseMail;
 use routes::routes::Routes;
 use row::refused::Refused;
 use schedule::wire::Spot;
+use stage_steps::message::ToStage;
 use std::alloc::Global;
 use std::sync::Wait;
 
@@ -40,25 +41,26 @@ pub fn base_work<J: Naming, R: Wait, G: Gate>(
 {
     let base = log.base();
     let stages = routes.plan().stages();
-    let (Ok(mut domain), Ok(mut out), Some(inbox)) = (
-        fresh_base(alloc, routes.plan(), log, sessions),
-        Outbox::new(alloc, stages),
-        routes.base_inbox(base),
-    ) else {
+    let Some(inbox) = routes.base_inbox(base) else {
         return routes.stop(rt, Spot::Base(base));
     };
-    let Ok(mut turns) = Turns::new(alloc, inbox.edges()) else {
+    let (Ok(mut domain), Ok(mut out), Ok(mut turns)) = (
+        fresh_base(alloc, routes.plan(), log, sessions),
+        Outbox::new(alloc, stages),
+        Turns::new(alloc, inbox.edges()),
+    ) else {
         return routes.stop(rt, Spot::Base(base));
     };
     routes.begin(rt, Spot::Base(base));
     let id = id_of(routes.plan(), base);
+    let worker = Worker::new(rt, alloc, routes, base);
     for _ in rt.forever() {
         let number = turns.turn();
         let Some(mail) = turns.next(rt, inbox) else {
             break;
         };
         gate.before(id, number);
-        turn(rt, alloc, routes, base, &mut domain, mail, &mut out);
+        turn(&worker, &mut domain, mail, &mut out);
         gate.after(id, number);
     }
 }
@@ -74,15 +76,12 @@ fn id_of(plan: &Plan, base: usize) -> DomainId {
 // Takes one message, sends its packets, and then its reply. Where a packet is refused the domain
 // stops: a later one would come out of turn.
 fn turn<J: Naming, R: Wait>(
-    rt: &R,
-    alloc: Global,
-    routes: &Routes<J>,
-    base: usize,
+    worker: &Worker<J, R>,
     domain: &mut BaseDomain<Front<J>>,
     mail: BaseMail<J>,
     out: &mut Outbox<Front<J>>,
 )
-    requires base { domain.old.front.base ≡ base }
+    requires base { domain.old.front.base ≡ worker.now.place }
     requires sessions { length domain.old.next ≡ J.sessions }
     requires clear { IsClear out.old }
     requires edges { length out.old.edges ≡ J.plan.stages }
@@ -91,9 +90,17 @@ fn turn<J: Naming, R: Wait>(
     ensures clear { IsClear out.new }
     ensures edges { length out.new.edges ≡ J.plan.stages }
 {
+    let (rt, routes, base) = (worker.rt, worker.routes, worker.place);
     let was_running = !domain.is_stopped();
-    let BaseTurn { reply, taken: _ } = take_base(alloc, routes.book(), base, domain, mail, out);
-    pass_on(rt, alloc, routes, base, domain, out);
+    let BaseTurn { reply, taken: _ } = take_base(
+        worker.alloc,
+        routes.book(),
+        base,
+        domain,
+        mail,
+        out,
+    );
+    pass_on(worker, domain, out);
     if let Some(reply) = reply {
         routes.reply(rt, reply);
     }
@@ -104,10 +111,7 @@ fn turn<J: Naming, R: Wait>(
 
 // Sends what it put out; where a packet is refused the domain stops.
 fn pass_on<J: Naming, R: Wait>(
-    rt: &R,
-    alloc: Global,
-    routes: &Routes<J>,
-    base: usize,
+    worker: &Worker<J, R>,
     domain: &mut BaseDomain<Front<J>>,
     out: &mut Outbox<Front<J>>,
 )
@@ -117,7 +121,7 @@ fn pass_on<J: Naming, R: Wait>(
     ensures clear { IsClear out.new }
     ensures edges { length out.new.edges ≡ length out.old.edges }
 {
-    if send(rt, alloc, routes, base, out).is_err() {
+    if send(worker, out).is_err() {
         domain.stop();
     }
 }
@@ -125,37 +129,23 @@ fn pass_on<J: Naming, R: Wait>(
 // Sends the packets to each stage shard, in order, and leaves the outbox clear. Errors: a packet
 // was refused; none is sent after it.
 fn send<J: Naming, R: Wait>(
-    rt: &R,
-    alloc: Global,
-    routes: &Routes<J>,
-    base: usize,
+    worker: &Worker<J, R>,
     out: &mut Outbox<Front<J>>,
 ) -> Result<(), Refused>
     requires reply { out.old.reply ≡ None }
     ensures clear { IsClear out.new }
     ensures edges { length out.new.edges ≡ length out.old.edges }
 {
+    let (rt, routes, base) = (worker.rt, worker.routes, worker.place);
     let source = routes.sources().iter().position(|own| *own == base);
     let mut sent = Ok(());
     for stage in 0..out.stages() {
-        let packets = out.take(alloc, stage);
-        if let (Ok(()), Some(source)) = (sent, source) {
-            sent = send_to(rt, routes, source, stage, packets);
+        let packets = out.take(worker.alloc, stage);
+        if let Some(source) = source {
+            sent = send_each(sent, packets, |packet| {
+                routes.to_stage(rt, source, stage, ToStage::Packet { source, packet })
+            });
         }
     }
     sent
-}
-
-// Sends packets to one stage shard, in order. Errors: a packet was refused; none is sent after it.
-fn send_to<J: Naming, R: Wait>(
-    rt: &R,
-    routes: &Routes<J>,
-    source: usize,
-    stage: usize,
-    packets: Vec<BasePacket<Front<J>>>,
-) -> Result<(), Refused> {
-    for packet in packets {
-        routes.source_to_stage(rt, source, stage, packet)?;
-    }
-    Ok(())
 }

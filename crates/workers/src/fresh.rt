@@ -14,8 +14,8 @@ use book::log::Log;
 use book::part::Part;
 use model::places::place_of;
 use packet::line::Line;
-use packet::reader::Reader;
 use plan::plan::Plan;
+use routes::routes::Routes;
 use stage_domain::stage_domain::StageDomain;
 use std::alloc::{AllocError, Global};
 use view_domain::view_domain::ViewDomain;
@@ -42,19 +42,15 @@ pub fn fresh_base<'p, J: Naming>(
 /// than the part. Errors: memory only. Cost: linear in the sources.
 pub fn fresh_stage<'p, J: Naming>(
     alloc: Global,
-    plan: &'p Plan,
+    routes: &'p Routes<J>,
     part: &Part<J>,
-    sources: &[usize],
     shard: usize,
 ) -> Result<StageDomain<'p, Front<J>>, AllocError>
-    requires plan { plan.now ≡ J.plan }
-    requires sources { sources.now ≡ sources_of J.plan }
-    requires range { Each (λ b. b < base_count J.plan) sources.now }
     requires shard { shard < J.plan.stages }
     ensures { IfOk result (IsNew J.plan shard (empty_line J.plan)) }
 {
-    let line = empty_line(alloc, part, sources)?;
-    StageDomain::new(alloc, plan, shard, line)
+    let line = empty_line(alloc, part, routes.sources())?;
+    StageDomain::new(alloc, routes.plan(), shard, line)
 }
 
 /// The domain of a view shard over the empty front of each source for each stage shard, with no key
@@ -62,21 +58,19 @@ pub fn fresh_stage<'p, J: Naming>(
 /// in the sources and the stage shards.
 pub fn fresh_view<'p, J: Naming>(
     alloc: Global,
-    plan: &'p Plan,
+    routes: &'p Routes<J>,
     part: &Part<J>,
-    sources: &[usize],
-    reader: Reader,
+    view: usize,
+    shard: usize,
 ) -> Result<ViewDomain<'p, Front<J>>, AllocError>
-    requires plan { plan.now ≡ J.plan }
-    requires sources { sources.now ≡ sources_of J.plan }
-    requires range { Each (λ b. b < base_count J.plan) sources.now }
-    requires view { reader.view < length J.plan.views }
-    ensures fresh { IfOk result (λ d. d ≡ fresh_view J.plan reader.view reader.shard) }
-    ensures shows { IfOk result (λ d. Shows d (first_of J.plan reader.view reader.shard)) }
+    requires view { view < length J.plan.views }
+    ensures fresh { IfOk result (λ d. d ≡ fresh_view J.plan view shard) }
+    ensures shows { IfOk result (λ d. Shows d (first_of J.plan view shard)) }
 {
-    let line = empty_line(alloc, part, sources)?;
+    let line = empty_line(alloc, part, routes.sources())?;
+    let plan = routes.plan();
     let cut = empty_cut(alloc, plan.stages(), &line)?;
-    ViewDomain::new(alloc, plan, reader.view, reader.shard, cut)
+    ViewDomain::new(alloc, plan, view, shard, cut)
 }
 
 // The empty front of each source. Errors: memory only.

@@ -12,3 +12,4 @@ pub mod turns;
 pub mod view_turns;
 pub mod view_worker;
 pub mod waits;
+mod worker;

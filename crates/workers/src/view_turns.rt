@@ -4,7 +4,7 @@ ghost use Rattle.packet.specs.declared.mode.Mode.TheVariants.{Broken, Running};
 ghost use Rattle.shown.specs.Boards.{pending, shown};
 ghost use Rattle.view_domain.specs.Codes.{message_of, Meets};
 ghost use Rattle.view_domain.specs.Outboxes.{IsClear};
-ghost use Rattle.workers.specs.ViewTurns.{are_one, IsFor, IsOwn, IsRefused, IsTaken, IsUntaken, Shows};
+ghost use Rattle.workers.specs.ViewTurns.{are_one, IsFor, IsOwn, IsRefused, IsTaken, Shows};
 
 use book::front::Front;
 use book::law::Naming;
@@ -22,10 +22,14 @@ use view_domain::view_domain::ViewDomain;
 /// A view shard takes one message from its inbox into a clear outbox, and its shown copy is made to
 /// show what it then holds.
 ///
-/// With `Ok` the message was for it, and all is as `take_view` says. Errors: `Gap` just where a
-/// packet was not for it or does not start at the line that is held of its stage shard, and the
-/// domain has then stopped, with all else as it was; else as `take_view`. After an error the copy
-/// shows what it showed, and what is in the outbox is not to be sent. Cost: that of `take_view`.
+/// With `Ok` the message was for it and in turn, the domain did the step of the protocol, its
+/// requests and its acknowledgement are in the outbox, and the copy shows just the keys that it
+/// holds filled, with their rows, over its cut. Errors: `Gap` just where a packet was not for it or
+/// does not start at the line that is held of its stage shard, and the domain has then stopped,
+/// with all else as it was; `NoMemory`, also where the copy was refused memory, and then the domain
+/// does not run; `Stopped` where it did not run, and nothing changes. After an error the copy shows
+/// what it showed, and what is in the outbox is not to be sent. Cost: that of the message and of
+/// its change of the copy, which waits for readers that still look at the copy behind.
 pub fn take_from_inbox<J: Naming, R: Wait + Drop>(
     alloc: Global,
     plan: &Plan,
@@ -59,7 +63,16 @@ pub fn take_from_inbox<J: Naming, R: Wait + Drop>(
         domain.stop();
         return Err(Refused::Gap);
     }
-    take_view(alloc, domain, writer, message, out)
+    domain.receive(alloc, message, out)?;
+    domain.is_true();
+    let Some(change) = out.take_shown() else {
+        return Ok(());
+    };
+    let Ok(()) = writer.show(alloc, change) else {
+        domain.stop();
+        return Err(Refused::NoMemory);
+    };
+    Ok(())
 }
 
 // Whether the message is for the domain.
@@ -100,52 +113,4 @@ fn is_from<J: Naming>(
         && packet.stage() == stage
         && reader.view == domain.view()
         && reader.shard == domain.shard()
-}
-
-// A view shard takes one message into a clear outbox, and its shown copy is made to show what it
-// then holds.
-//
-// With `Ok` the domain did the step of the protocol, its requests and its acknowledgement are in
-// the outbox, and the copy shows just the keys that it holds filled, with their rows, over its cut.
-// Errors: `Gap` just where a packet does not start at the line that is held of its stage shard, and
-// the domain has then stopped, with all else as it was; `NoMemory`, also where the copy was refused
-// memory, and then the domain does not run; `Stopped` where it did not run, and nothing changes.
-// After an error the copy shows what it showed, and what is in the outbox is not to be sent. Cost:
-// that of the message and of its change of the copy, which waits for readers that still look at the
-// copy behind.
-fn take_view<J: Naming, R: Wait + Drop>(
-    alloc: Global,
-    domain: &mut ViewDomain<Front<J>>,
-    writer: &mut ShownWriter<J, R>,
-    message: ToView<Front<J>>,
-    out: &mut ViewOutbox<Front<J>>,
-) -> Result<(), Refused>
-    requires plan { domain.old.plan ≡ J.plan }
-    requires clear { IsClear out.old }
-    requires edges { length out.old.requests ≡ J.plan.stages }
-    requires meets { Meets are_one domain.old message }
-    requires shows { Shows domain.old (shown writer.old) }
-    requires idle { pending writer.old ≡ [] }
-    ensures done { OnOk result (IsTaken (message_of message) domain.old out.new domain.new) }
-    ensures shows { OnOk result (Shows domain.new (shown writer.new)) }
-    ensures idle { OnOk result (pending writer.new ≡ []) }
-    ensures plan { OnOk result (domain.new.plan ≡ J.plan) }
-    ensures stays { OnErr result (shown writer.new ≡ shown writer.old) }
-    ensures not { domain.old.mode ≢ Running → IsErrAnd result (λ e. (e ≡ Refused.Stopped)
-        × (domain.new ≡ domain.old)) }
-    ensures refused { domain.old.mode ≡ Running → IfErr result (λ e. IsUntaken
-        (message_of message) domain.old e domain.new) }
-    ensures stopped { OnErr result (domain.new.mode ≢ Running) }
-    ensures edges { length out.new.requests ≡ J.plan.stages }
-{
-    domain.receive(alloc, message, out)?;
-    domain.is_true();
-    let Some(change) = out.take_shown() else {
-        return Ok(());
-    };
-    let Ok(()) = writer.show(alloc, change) else {
-        domain.stop();
-        return Err(Refused::NoMemory);
-    };
-    Ok(())
 }

@@ -15,18 +15,19 @@ use crate::gate::Gate;
 use crate::turns::Turns;
 use crate::view_turns::take_from_inbox;
 use crate::waits::Waits;
+use crate::worker::{Worker, send_each};
 use book::front::Front;
 use book::law::Naming;
 use book::part::Part;
 use packet::mode::Mode;
 use packet::reader::Reader;
-use packet::request::Request;
 use plan::domain::DomainId;
 use routes::mail::ViewMail;
 use routes::routes::Routes;
 use row::refused::Refused;
 use schedule::wire::Spot;
 use shown::writer::ShownWriter;
+use stage_steps::message::ToStage;
 use std::alloc::Global;
 use std::mem;
 use std::sync::Wait;
@@ -74,7 +75,7 @@ fn work<J: Naming, R: Wait + Drop, G: Gate>(
     };
     let sessions = inbox.edges().saturating_sub(plan.stages());
     let (Ok(mut domain), Ok(mut out), Ok(mut waits), Ok(mut turns)) = (
-        fresh_view(alloc, plan, part, routes.sources(), own),
+        fresh_view(alloc, routes, part, own.view, own.shard),
         ViewOutbox::new(alloc, plan.stages()),
         Waits::new(alloc, sessions),
         Turns::new(alloc, inbox.edges()),
@@ -82,6 +83,7 @@ fn work<J: Naming, R: Wait + Drop, G: Gate>(
         return routes.stop(rt, Spot::View(reader));
     };
     routes.begin(rt, Spot::View(reader));
+    let worker = Worker::new(rt, alloc, routes, reader);
     let id = DomainId::View(own.view, own.shard);
     for _ in rt.forever() {
         let number = turns.turn();
@@ -90,16 +92,7 @@ fn work<J: Naming, R: Wait + Drop, G: Gate>(
         };
         gate.before(id, number);
         let message = message_of(mail, &mut waits);
-        turn(
-            rt,
-            alloc,
-            routes,
-            reader,
-            &mut domain,
-            writer,
-            message,
-            &mut out,
-        );
+        turn(&worker, &mut domain, writer, message, &mut out);
         if domain.mode() == Mode::Running {
             waits.ring(rt, routes, &domain);
         }
@@ -137,10 +130,7 @@ fn message_of<J: Naming>(mail: ViewMail<J>, waits: &mut Waits) -> ToView<Front<J
 // the fence is acknowledged whose marker has come. Where the message or a request is refused the
 // domain stops.
 fn turn<J: Naming, R: Wait + Drop>(
-    rt: &R,
-    alloc: Global,
-    routes: &Routes<J>,
-    reader: usize,
+    worker: &Worker<J, R>,
     domain: &mut ViewDomain<Front<J>>,
     writer: &mut ShownWriter<J, R>,
     message: ToView<Front<J>>,
@@ -161,9 +151,10 @@ fn turn<J: Naming, R: Wait + Drop>(
     if domain.mode() != Mode::Running {
         return;
     }
+    let (rt, routes, reader) = (worker.rt, worker.routes, worker.place);
     let plan = routes.plan();
-    let taken = take_from_inbox(alloc, plan, domain, writer, message, out);
-    if taken.is_err() || send(rt, alloc, routes, reader, plan.stages(), out).is_err() {
+    let taken = take_from_inbox(worker.alloc, plan, domain, writer, message, out);
+    if taken.is_err() || send(worker, plan.stages(), out).is_err() {
         domain.stop();
         return routes.stop(rt, Spot::View(reader));
     }
@@ -175,10 +166,7 @@ fn turn<J: Naming, R: Wait + Drop>(
 // Sends the requests to each stage shard, in order, and leaves none. Errors: a request was refused;
 // none is sent after it.
 fn send<J: Naming, R: Wait>(
-    rt: &R,
-    alloc: Global,
-    routes: &Routes<J>,
-    reader: usize,
+    worker: &Worker<J, R>,
     stages: usize,
     out: &mut ViewOutbox<Front<J>>,
 ) -> Result<(), Refused>
@@ -187,27 +175,13 @@ fn send<J: Naming, R: Wait>(
     ensures rest { out.new ≡ record out.old { requests = out.new.requests } }
     ensures edges { length out.new.requests ≡ stages }
 {
+    let (rt, routes, reader) = (worker.rt, worker.routes, worker.place);
     let mut sent = Ok(());
     for stage in 0..stages {
-        let requests = out.take_requests(alloc, stage);
-        if let Ok(()) = sent {
-            sent = send_to(rt, routes, reader, stage, requests);
-        }
+        let requests = out.take_requests(worker.alloc, stage);
+        sent = send_each(sent, requests, |request| {
+            routes.to_stage(rt, reader, stage, ToStage::Request(request))
+        });
     }
     sent
-}
-
-// Sends requests to one stage shard, in order. Errors: a request was refused; none is sent after
-// it.
-fn send_to<J: Naming, R: Wait>(
-    rt: &R,
-    routes: &Routes<J>,
-    reader: usize,
-    stage: usize,
-    requests: Vec<Request>,
-) -> Result<(), Refused> {
-    for request in requests {
-        routes.view_to_stage(rt, reader, stage, request)?;
-    }
-    Ok(())
 }

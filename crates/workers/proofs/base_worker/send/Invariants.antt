@@ -5,7 +5,7 @@ use Rattle.workers.proofs.base_worker.send.Given as goal
 
 abbrev pub invariant-loop-stage : goal.invariant-loop-stage
 invariant-loop-stage g l = record {
-  none : AreEmpty (packets_on l.out.edges) 0 l.stage;
+  none : AreEmpty (packets_on l.out.edges) 0 l.stage-counter;
   edges : length l.out.edges ≡ length l.fn.out.edges;
   reply : l.out.reply ≡ None;
 }

@@ -5,7 +5,7 @@ use Rattle.workers.proofs.stage_worker.send_packets.Given as goal
 
 abbrev pub invariant-loop-reader : goal.invariant-loop-reader
 invariant-loop-reader g l = record {
-  none : AreEmpty (packets_on l.out.packets) 0 l.reader;
+  none : AreEmpty (packets_on l.out.packets) 0 l.reader-counter;
   rest : l.out ≡ record l.fn.out { packets = l.out.packets };
   edges : length l.out.packets ≡ length l.fn.out.packets;
 }

@@ -5,7 +5,7 @@ use Rattle.workers.proofs.view_worker.send.Given as goal
 
 abbrev pub invariant-loop-stage : goal.invariant-loop-stage
 invariant-loop-stage g l = record {
-  none : AreEmpty (packets_on l.out.requests) 0 l.stage;
+  none : AreEmpty (packets_on l.out.requests) 0 l.stage-counter;
   rest : l.out ≡ record l.fn.out { requests = l.out.requests };
   edges : length l.out.requests ≡ length l.fn.out.requests;
 }

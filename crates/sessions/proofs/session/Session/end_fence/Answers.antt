@@ -1,11 +1,10 @@
-use Rattle.std.proofs.Common.{◌+◌, true, ap, ◌∙◌, arith, inl, inr, refl}
+use Rattle.std.proofs.Common.{◌+◌, ap, ◌∙◌, arith, inl, inr, refl}
 use Rattle.model.specs.Tables.{places_of}
 use Rattle.model.proofs.Prefixes.{prefix_self, prefix_trans}
 use Rattle.book.specs.Sessions.{SessionView}
-use Rattle.sessions.proofs.Callers.{caller_later}
 use Rattle.sessions.proofs.Floored.{floors_rise, own_written, own_past, caller_fenced, looks_fenced, added_grows, fenced}
 use Rattle.sessions.proofs.Later.{all_self}
-use Rattle.sessions.proofs.Looks.{looks_later}
+use Rattle.sessions.proofs.Words.{stolen_kept, stolen_undone}
 use Rattle.sessions.proofs.session.Session.end_fence.Goals as goal
 
 pub returns-in_default-clause-refused : goal.returns-in_default-clause-refused
@@ -54,21 +53,7 @@ returns-in-Ok-fenced-clause-fenced g c =
     rw (← c.self.view_is, c.part.ensures.part, session, answered) (fenced p _ c.args.looked.now c.args.cuts c.self.invariant.2 cuts c.learn.new.self.seen h c.fence-fenced.new.self.floors (places_of c.in-Ok.own.items) c.learn.ensures.others once c.in-Ok.ensures are c.requires.bases all added)
 
 pub invariant_of-self-in-Err : goal.invariant_of-self-in-Err
-invariant_of-self-in-Err g c =
-    let p = g.J.Naming.plan in
-    let told = c.in-Err.ensures.stolen in
-    let h = c.fence-fenced.new.self.seen in
-    let grown = prefix_trans c.self.inside.seen c.learn.new.self.seen h c.learn.ensures.others told.grown in
-    let session = (ap (λ (x : SessionView). x.session) told.stays) ∙ (ap (λ (x : SessionView). x.session) c.learn.ensures.stays) in
-    let floors = (ap (λ (x : SessionView). x.floors) told.stays) ∙ (ap (λ (x : SessionView). x.floors) c.learn.ensures.stays) in
-    rw (c.part.ensures.part, session, floors) (caller_later p _ (c.self.inside.number + 1) true h _ c.self.invariant.0 grown, omega (arith, (ap (λ (x : SessionView). x.answered) told.stays), (ap (λ (x : SessionView). x.answered) c.learn.ensures.stays), c.self.invariant.1), looks_later p _ (c.self.inside.number + 1) true h _ _ c.self.invariant.2 (all_self _), c.self.invariant.3)
+invariant_of-self-in-Err g c = stolen_kept g.J.Naming.plan c.self.inside.number c.self.inside.stolen c.self.inside.seen c.self.inside.accepted.items c.self.inside.sights c.self.inside.word c.learn.new.self c.fence-fenced.new.self c.learn.ensures.stays c.learn.ensures.others c.in-Err.ensures.stolen g.J.Naming.sessions _ c.part.ensures.part c.self.invariant.0 c.self.invariant.1 c.self.invariant.2 c.self.invariant.3
 
 pub returns-clause-refused : goal.returns-clause-refused
-returns-clause-refused g c =
-    let told = c.in-Err.ensures.stolen in
-    let h = c.fence-fenced.new.self.seen in
-    let grown = prefix_trans c.self.inside.seen c.learn.new.self.seen h c.learn.ensures.others told.grown in
-    let session = (ap (λ (x : SessionView). x.session) told.stays) ∙ (ap (λ (x : SessionView). x.session) c.learn.ensures.stays) in
-    let floors = (ap (λ (x : SessionView). x.floors) told.stays) ∙ (ap (λ (x : SessionView). x.floors) c.learn.ensures.stays) in
-    let answered = (ap (λ (x : SessionView). x.answered) told.stays) ∙ (ap (λ (x : SessionView). x.answered) c.learn.ensures.stays) in
-    rw (← c.self.view_is, c.part.ensures.part, session, answered, floors) (record { after = refl; looked = all_self _; number = inr refl; grown = grown; why = inr (refl, refl) })
+returns-clause-refused g c = rw (← c.self.view_is) (stolen_undone g.J.Naming.plan c.self.inside.number c.self.inside.stolen c.self.inside.seen c.self.inside.accepted.items c.self.inside.sights c.self.inside.word c.learn.new.self c.fence-fenced.new.self c.learn.ensures.stays c.learn.ensures.others c.in-Err.ensures.stolen _ c.part.ensures.part)

@@ -1,9 +1,9 @@
-use Rattle.std.proofs.Common.{◌≡◌, ◌⊎◌, Some, inl, inr, refl}
+use Rattle.std.proofs.Common.{inl, inr, refl}
 use Rattle.model.proofs.Prefixes.{prefix_self}
 use Rattle.sessions.specs.Fences.{IsFenced, IsUnfenced}
 use Rattle.sessions.proofs.Found.{err_to, ok_to, unfenced, unsent}
 use Rattle.sessions.proofs.Later.{all_self}
-use Rattle.sessions.proofs.Looks.{looked_fenced, looked_unfenced, seen_same}
+use Rattle.sessions.proofs.Looks.{looked_fenced, looked_undone, seen_same}
 use Rattle.sessions.proofs.session.Session.fence_sources.Goals as goal
 
 pub returns-in_default-clause-refused : goal.returns-in_default-clause-refused
@@ -21,4 +21,4 @@ returns-in-Ok-shown_cuts-clause-fenced g c =
 
 pub returns-in-Ok-shown_cuts-clause-refused : goal.returns-in-Ok-shown_cuts-clause-refused
 returns-in-Ok-shown_cuts-clause-refused g c =
-    err_to (IsUnfenced c.shown_cuts.new.self c.end_fence.new.self) _ c.end_fence.result (λ e h. inr (looked_unfenced g.J.Naming.plan _ _ _ c.shown_cuts.ensures.looked e h)) c.end_fence.ensures.refused
+    err_to (IsUnfenced c.shown_cuts.new.self c.end_fence.new.self) _ c.end_fence.result (λ e h. inr (looked_undone g.J.Naming.plan _ _ _ c.shown_cuts.ensures.looked e h)) c.end_fence.ensures.refused

@@ -1,7 +1,7 @@
 use Rattle.std.proofs.Common.{ap, arith, inl}
 use Rattle.sessions.specs.Callers.{Caller}
 use Rattle.sessions.proofs.Found.{looked_unanswered, same_looked}
-use Rattle.sessions.proofs.Looks.{looked_again, looked_read, looked_unread}
+use Rattle.sessions.proofs.Looks.{looked_again, looked_read, looked_undone}
 use Rattle.sessions.proofs.session.Session.read_by_turns.Goals as goal
 
 pub loop-turn-init : goal.loop-turn-init
@@ -11,7 +11,7 @@ pub look-requires-clause-number : goal.look-requires-clause-number
 look-requires-clause-number g c = c.loop-turn.invariant.number
 
 pub returns-in-Err-clause-refused : goal.returns-in-Err-clause-refused
-returns-in-Err-clause-refused g c = inl (looked_unread g.J.Naming.plan _ _ _ c.loop-turn.invariant.looked _ c.in-Err.ensures.refused)
+returns-in-Err-clause-refused g c = inl (looked_undone g.J.Naming.plan _ _ _ c.loop-turn.invariant.looked _ c.in-Err.ensures.refused)
 
 pub returns-in-Hit-clause-answer : goal.returns-in-Hit-clause-answer
 returns-in-Hit-clause-answer g c =

@@ -1,4 +1,4 @@
-use Rattle.std.proofs.Common.{◌≡◌, ◌+◌, ◌==◌, min, take, refl, ap, sym, ◌∙◌}
+use Rattle.std.proofs.Common.{min, take, refl, ap, sym, ◌∙◌}
 use Rattle.base_domain.specs.Received.{last_number}
 use Rattle.schedule.specs.Codes.{reader_in}
 use Rattle.sessions.specs.Counts.{asked_of}

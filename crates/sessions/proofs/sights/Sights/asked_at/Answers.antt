@@ -1,4 +1,3 @@
-use Rattle.std.proofs.Common.{ap, ◌∙◌, refl}
 use Rattle.sessions.proofs.Counts.{asked_there, unasked_there}
 use Rattle.sessions.proofs.Found.{got_at, look_are, look_later}
 use Rattle.sessions.proofs.Later.{all_self}

@@ -1,5 +1,3 @@
-use Rattle.std.proofs.Common.{ap, ◌∙◌, refl}
-use Rattle.sessions.specs.Sights.{IsCutAt}
 use Rattle.sessions.proofs.Found.{cut_there, got_at, look_are, look_later}
 use Rattle.sessions.proofs.sights.Sights.cut_at.Goals as goal
 

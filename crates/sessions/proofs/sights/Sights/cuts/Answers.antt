@@ -1,4 +1,4 @@
-use Rattle.std.proofs.Common.{◌≡◌, ◌<◌, ◌+◌, suc, length, ap, sym, ◌∙◌, subst, arith, refl, take}
+use Rattle.std.proofs.Common.{length, ap, sym, ◌∙◌, subst, arith, refl}
 use Rattle.std.proofs.lemmas.List.{length-map, take_all}
 use Rattle.row.specs.Bags.{Each}
 use Rattle.model.specs.Tables.{IsTable}

@@ -1,4 +1,4 @@
-use Rattle.std.proofs.Common.{◌≡◌, ◌<◌, None, length, ap, sym, ◌∙◌, arith}
+use Rattle.std.proofs.Common.{◌≡◌, ◌<◌, None, length, sym, ◌∙◌, arith}
 use Rattle.workers.specs.Waits.{waiting_on}
 use Rattle.workers.proofs.Stepped.{changed, ended, kept_length, stayed}
 use Rattle.workers.proofs.waits.Waits.ring.Goals.{in-Some, in_default}
