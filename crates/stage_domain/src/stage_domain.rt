@@ -1,13 +1,14 @@
 //! One stage shard that takes messages until it stops.
-ghost use Rattle.std.specs.Prelude.{◌≡◌, ◌≢◌, ◌<◌, Err, [], length, IfOk, OnOk, OnErr, IfErr, IsTrue, ◌↔◌};
+ghost use Rattle.std.specs.Prelude.{◌≡◌, ◌≢◌, ◌<◌, Err, [], IfOk, OnOk, OnErr, IfErr, IsTrue, ◌↔◌};
 ghost use Rattle.row.specs.Bags.{Each};
 ghost use Rattle.model.specs.Fronts.{LogView};
 ghost use Rattle.packet.specs.Lines.{AreOf};
 ghost use Rattle.protocol.specs.StageSteps.{step};
 ghost use Rattle.protocol.specs.Stages.{packet};
-ghost use Rattle.stage_domain.specs.Domains.{Fails, IsDone, IsNew, IsNext, Meets, stage_of, stopped};
+ghost use Rattle.stage_domain.specs.Domains.{Fails, IsDone, IsNew, IsNext, Meets, shard_in, stage_of, stopped};
 ghost use Rattle.stage_steps.specs.Codes.{message_of};
 ghost use Rattle.stage_steps.specs.Outboxes.{AreEdges, IsSilent};
+ghost use Rattle.stage_steps.specs.Shards.{IsShard};
 
 use model::fronts::Fronts;
 use packet::base_packet::BasePacket;
@@ -77,10 +78,12 @@ impl<'p, F: Fronts> StageDomain<'p, F> {
         self.shard.shard()
     }
 
-    /// The line of fronts that it holds, one of each source of its plan unless it is broken.
+    /// The line of fronts that it holds, one of each source of its plan unless it is broken: its
+    /// rows are then those of the line.
     pub fn line(&self) -> &Line<F>
         ensures line { result.now ≡ self.now.line }
         ensures of { self.now.mode ≢ Mode.Broken → AreOf self.now.plan result.now }
+        ensures truth { self.now.mode ≢ Mode.Broken → IsShard (shard_in self.now) }
     {
         self.shard.line()
     }
