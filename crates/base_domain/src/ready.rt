@@ -1,12 +1,10 @@
 //! What the step of a write needs, made before it.
-ghost use Rattle.std.specs.Prelude.{◌≡◌, ◌++◌, ◌∷◌, [], List, Some, None, map, length, IfOk, IfErr, OnOk, IfSome};
+ghost use Rattle.std.specs.Prelude.{◌≡◌, Some, None, length, IfOk, IfErr, OnOk, IfSome};
 ghost use Rattle.std.specs.Option.{option_map};
-ghost use Rattle.row.specs.Changes.{Turns};
 ghost use Rattle.model.specs.Entries.{change_of};
-ghost use Rattle.model.specs.Logs.{Change, rows_of};
 ghost use Rattle.model.specs.Refusals.{refusal_over};
 ghost use Rattle.base.specs.Records.{records_at};
-ghost use Rattle.base.specs.Shards.{IsAt, HasKey, HasRoom};
+ghost use Rattle.base.specs.Shards.{HasKey, HasRoom};
 ghost use Rattle.packet.specs.Outboxes.{HaveRoom, packets_on};
 ghost use Rattle.packet.specs.Readers.{side_in};
 ghost use Rattle.packet.specs.Split.{parts_by};

@@ -1,7 +1,5 @@
 //! What is told of a write: its packets, and its answer.
-ghost use Rattle.std.specs.Prelude.{◌≡◌, ◌⊎◌, ◌<◌, ◌≤◌, ℕ, List, [], Some, None, length, map, slice_index_or, IfOk, IfErr, Ok, Err, OnOk, OnErr, IfSome};
-ghost use Rattle.std.specs.List.{range_with_len};
-ghost use Rattle.std.specs.Option.{option_map};
+ghost use Rattle.std.specs.Prelude.{◌≡◌, ◌⊎◌, ◌<◌, ◌≤◌, ℕ, Some, None, length, IfOk, IfErr, Ok, Err, OnOk, OnErr, IfSome};
 ghost use Rattle.packet.specs.Answers.{IsAnswer};
 ghost use Rattle.packet.specs.Messages.{none_of};
 ghost use Rattle.packet.specs.Outboxes.{HaveRoom, IsClear, packets_on};

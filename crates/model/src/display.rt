@@ -1,5 +1,5 @@
 //! How cuts are printed.
-ghost use Rattle.std.specs.Prelude.{◌≡◌, Some};
+ghost use Rattle.std.specs.Prelude.{Some};
 ghost use Rattle.std.specs.Fmt.{WritesOnOk};
 ghost use Rattle.model.specs.Printed.{printed_line, printed_cut};
 

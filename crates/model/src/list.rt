@@ -1,7 +1,6 @@
 //! Fronts over plain lists, for runs with no words that threads share.
-ghost use Rattle.std.specs.Prelude.{◌≡◌, ◌<◌, ◌+◌, ◌++◌, [], ◌∷◌, length, IfOk};
-ghost use Rattle.model.specs.Entries.{change_of};
-ghost use Rattle.model.specs.Fronts.{LogView, IsLog, Agree};
+ghost use Rattle.std.specs.Prelude.{◌≡◌, ◌<◌, ◌+◌, [], length, IfOk};
+ghost use Rattle.model.specs.Fronts.{IsLog, Agree};
 ghost use Rattle.model.specs.Lists.{ListView, changes_of, authors_of};
 ghost use Rattle.model.specs.Places.{base_count};
 

@@ -1,5 +1,5 @@
 //! Markers that have not come from all senders.
-ghost use Rattle.std.specs.Prelude.{◌≡◌, ◌<◌, ◌∷◌, ◌++◌, [], length, position, slice_index_or, IfOk, OnOk, OnErr};
+ghost use Rattle.std.specs.Prelude.{◌≡◌, ◌<◌, ◌∷◌, [], length, position, slice_index_or, IfOk, OnOk, OnErr};
 ghost use Rattle.row.specs.Bags.{Each};
 ghost use Rattle.packet.specs.Codes.{mark_of, marks_in};
 ghost use Rattle.packet.specs.Marks.{IsWaiting, arrived, come, complete, first_of, has_come, partly};

@@ -1,14 +1,14 @@
 //! Partial state: for each key a hole, a gather with the pieces in hand, or a filled entry. (Of
 //! the Noria paper: partially stateful dataflow, with upqueries that fill and evictions that
 //! open.)
-ghost use Rattle.std.specs.Prelude.{◌≡◌, ℕ, ◌<◌, [], List, None, Some, OnOk, OnErr, IfOk, IfSome, IfNone, true, false, length, drop, slice_get, slice_set};
+ghost use Rattle.std.specs.Prelude.{◌≡◌, ◌<◌, [], List, None, Some, OnOk, OnErr, IfOk, IfSome, IfNone, true, false, length, drop, slice_get, slice_set};
 ghost use Rattle.std.specs.Option.{option_copied, ForSome};
 ghost use Rattle.std.specs.Set.{remove_key};
 ghost use Rattle.std.specs.List.{IsDistinct};
 ghost use Rattle.std.specs.Map.{lookup};
 ghost use Rattle.row.specs.Bags.{times, inserted, removed};
 ghost use Rattle.row.specs.Cells.{row_cmp};
-ghost use Rattle.partial.specs.States.{State, Kept, IsApart, state_of, order_of, OthersStay, GoesLast, Hole, is_hole, is_waiting, changed_at, entry_of, begun, fills, evicted, says_evicted, after_piece, after_change, ChangeFits};
+ghost use Rattle.partial.specs.States.{Kept, IsApart, state_of, order_of, OthersStay, GoesLast, Hole, is_hole, is_waiting, changed_at, entry_of, begun, fills, evicted, says_evicted, after_piece, after_change, ChangeFits};
 ghost use Rattle.partial.specs.Truth.{IsTrueOf, with_part};
 
 use crate::filled::{Filled, Walk};

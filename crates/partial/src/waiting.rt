@@ -1,6 +1,5 @@
 //! The gathers of the keys that wait.
-ghost use Rattle.std.specs.Prelude.{◌≡◌, None, Some, OnOk, OnErr, IfOk, IfSome, IfNone, true, false, if◌then◌else◌, slice_get, slice_set};
-ghost use Rattle.std.specs.Option.{option_map};
+ghost use Rattle.std.specs.Prelude.{◌≡◌, None, Some, IfSome, IfNone, true, false, if◌then◌else◌, slice_get, slice_set};
 ghost use Rattle.partial.specs.States.{given, completes, is_here};
 ghost use Rattle.indexmap.specs.IndexMap.{get, Updates};
 

@@ -1,5 +1,5 @@
 //! Whether a history is legal.
-ghost use Rattle.std.specs.Prelude.{◌≡◌, ◌≢◌, ◌<◌, length, IfOk};
+ghost use Rattle.std.specs.Prelude.{◌≡◌, ◌≢◌, ◌<◌, IfOk};
 ghost use Rattle.row.specs.Bags.{Each};
 ghost use Rattle.row.specs.Cells.{datum_of, shard};
 ghost use Rattle.model.specs.Entries.{change_of};

@@ -1,6 +1,6 @@
 //! The rows of a front, and what is lawful and what is refused there.
-ghost use Rattle.std.specs.Prelude.{◌≡◌, ◌∷◌, [], ◌++◌, not, map, cond, pos, filter, IfOk, List, length};
-ghost use Rattle.row.specs.Cells.{Cells, datum_of, int, cell_at, has};
+ghost use Rattle.std.specs.Prelude.{◌≡◌, ◌∷◌, [], ◌++◌, not, map, cond, filter, IfOk, length};
+ghost use Rattle.row.specs.Cells.{datum_of, cell_at, has};
 ghost use Rattle.model.specs.Logs.{changed, rows_of, is_held, lawful};
 ghost use Rattle.model.specs.Refusals.{refusal, full};
 ghost use Rattle.model.specs.Entries.{change_of};

@@ -1,8 +1,7 @@
 //! The left rows and the right rows of a stage shard over a line.
-ghost use Rattle.std.specs.Prelude.{◌≡◌, ◌≢◌, ◌<◌, ◌≤◌, IfOk, length, take, drop, Some, None, true};
+ghost use Rattle.std.specs.Prelude.{◌≡◌, ◌<◌, IfOk, length, take, drop, Some, None, true};
 ghost use Rattle.std.specs.List.{list_all};
 ghost use Rattle.plan.specs.Outputs.{pass};
-ghost use Rattle.plan.specs.Layouts.{table_at};
 ghost use Rattle.model.specs.Places.{side_count};
 ghost use Rattle.model.specs.Queries.{side_share, side_rows, left, right};
 ghost use Rattle.plain.specs.Fitting.{is_line, all_fit};

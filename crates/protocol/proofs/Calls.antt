@@ -18,7 +18,7 @@ use Rattle.plan.proofs.Facts.{facts}
 use Rattle.plan.specs.Facts.{IsView}
 use Rattle.model.specs.Places.{base_at, sources}
 use Rattle.model.specs.Queries.{answer}
-use Rattle.model.specs.Histories.{Item, Lengths, IsSame, len_at, floor_of, floor_in, view_shard}
+use Rattle.model.specs.Histories.{Item, Lengths, IsSame, floor_of, view_shard}
 use Rattle.protocol.proofs.Wired.{with_callers, IsLogOf, IsBase, AreFloors, Edges, entries_at, source_logs, lines_of, IsCaller, IsFloor, IsAck, Good}
 use Rattle.model.specs.Legal.{AllowsRead, most_sessions}
 use Rattle.model.specs.Refusals.{read_refusal, view_refusal}
@@ -31,7 +31,7 @@ use Rattle.protocol.specs.Bases.{Base}
 use Rattle.protocol.specs.Stages.{Stage}
 use Rattle.protocol.specs.Views.{View}
 use Rattle.protocol.specs.Worlds.{Node, World, Caller}
-use Rattle.protocol.specs.Events.{Event, Reply, hit, miss, refused, wanted, fence_sent, evicted, stopped, asked}
+use Rattle.protocol.specs.Events.{Event, hit, miss, refused, wanted, fence_sent, evicted, stopped, asked}
 use Rattle.protocol.specs.Theorem.{Told, is_numbered, stops_base, is_base, has_stopped}
 use Rattle.protocol.specs.WorldSteps.{lower_run, Did, lengths_of, reader_of, looked, try_in, try_by, wanted_at, want_in, want_by, count_in, count_by, asked_all, marked, fence_by, all_run, numbered, stage_order, evict_stage_in, view_order, evict_view_in, stage_takes, view_takes, off, off_at, stops, stop_at, on_edge, rounds}
 use Rattle.protocol.specs.Edges.{place_or, reader_place, Wire, is_there}

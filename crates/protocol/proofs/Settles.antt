@@ -4,7 +4,7 @@ use Rattle.std.proofs.lemmas.List.Concat.{flat_map-append}
 use Rattle.plan.specs.Layouts.{Layout}
 use Rattle.model.specs.Histories as item
 use Rattle.model.specs.Places.{sources}
-use Rattle.model.specs.Histories.{Item, Place, Floors, authors_of, author_in}
+use Rattle.model.specs.Histories.{Item, authors_of, author_in}
 use Rattle.protocol.specs.Worlds.{World}
 use Rattle.protocol.specs.Events.{Event}
 use Rattle.protocol.specs.Theorem.{AreEnded, AreFences, own_places, own_from}

@@ -17,13 +17,13 @@ use Rattle.protocol.specs.Events as event
 use Rattle.plan.specs.Profile.{IsPlan}
 use Rattle.model.specs.Logs.{Change, key_of, fits, lawful}
 use Rattle.model.specs.Places.{layout_of, table_of, shard_of, sources}
-use Rattle.model.specs.Histories.{Item, Author, Lengths, IsSame, last_or, log_of, authors_of}
+use Rattle.model.specs.Histories.{Item, Author, IsSame, last_or, log_of}
 use Rattle.model.specs.Legal.{limit, AllowsWrite, most_sessions}
 use Rattle.model.specs.Refusals.{refusal, write_refusal, misfit}
 use Rattle.model.proofs.PlaceLaws.{base_range, base_shard, base_layout, placed}
 use Rattle.model.proofs.Growth.{legal_more, log_push, log_other, authors_push, authors_other}
 use Rattle.packet.specs.Readers.{side_of}
-use Rattle.protocol.specs.Bases.{Base, Verdict, next_of, number_after}
+use Rattle.protocol.specs.Bases.{Base, next_of, number_after}
 use Rattle.protocol.specs.Worlds.{Node, World, Caller, Fence}
 use Rattle.protocol.specs.Events.{Event, Reply, accepted, refused}
 use Rattle.protocol.specs.Theorem.{Told, IsWrite, by_call, by_base, by_log, is_numbered, number_in, stops_base, has_stopped}

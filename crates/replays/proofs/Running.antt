@@ -1,5 +1,5 @@
 -- What a schedule that was run is.
-use Rattle.std.proofs.Common.{◌≡◌, ℕ, true, List, Option, Result, Ok, Err, OnOk}
+use Rattle.std.proofs.Common.{ℕ, true, List, Option, Result, Ok, Err, OnOk}
 use Rattle.std.specs.Io.KnownBytes.{Appends}
 use Rattle.plan.specs.Layouts.{Layout}
 use Rattle.plan.specs.Profile.{IsPlan}

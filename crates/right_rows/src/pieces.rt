@@ -1,5 +1,5 @@
 //! Records of keys that wait.
-ghost use Rattle.std.specs.Prelude.{◌≡◌, ℕ, Option, ◌&&◌, ◌++◌, ◌∷◌, [], List, true, IfOk, OnOk, if◌then◌else◌};
+ghost use Rattle.std.specs.Prelude.{◌≡◌, ℕ, Option, ◌&&◌, ◌++◌, ◌∷◌, [], true, IfOk, OnOk, if◌then◌else◌};
 ghost use Rattle.std.specs.Map.{lookup};
 ghost use Rattle.row.specs.Cells.{datum_of, has};
 ghost use Rattle.row.specs.Changes.{IsCovered};

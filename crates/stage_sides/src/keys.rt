@@ -6,7 +6,6 @@ ghost use Rattle.row.specs.Cells.{Cells, cell_at, datum_of, has, row_cmp};
 ghost use Rattle.row.specs.declared.record.Record.{Record as RecordView};
 ghost use Rattle.row.specs.declared.value.Value.{Value as Key};
 ghost use Rattle.ops.specs.SideRows.{fits_64_bits};
-ghost use Rattle.ops.specs.Stages.{HasAggregates};
 ghost use Rattle.partial.specs.Sums.{sum_of_bags};
 ghost use Rattle.partial.specs.Truth.{IsTrueOf};
 ghost use Rattle.packet.specs.Keys.{begin_at, give_at, open_at};

@@ -1,5 +1,5 @@
 //! The records of a view shard, each beside its key.
-ghost use Rattle.std.specs.Prelude.{◌≡◌, ◌≢◌, ◌&&◌, IfOk, map, not, true};
+ghost use Rattle.std.specs.Prelude.{◌≡◌, ◌≢◌, ◌&&◌, IfOk, map, not};
 ghost use Rattle.row.specs.Cells.{cell_at, datum_of, has_shard};
 ghost use Rattle.packet.specs.Keys.{is_among};
 ghost use Rattle.stage_steps.specs.Told.{keyed_for, told_changes};

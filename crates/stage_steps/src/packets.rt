@@ -1,7 +1,6 @@
 //! The packets of a stage shard to view shards.
-ghost use Rattle.std.specs.Prelude.{◌≡◌, ◌<◌, ◌≢◌, ◌++◌, filter, map, length, IfOk, OnOk, true};
+ghost use Rattle.std.specs.Prelude.{◌≡◌, ◌<◌, ◌++◌, filter, map, length, IfOk, OnOk};
 ghost use Rattle.row.specs.Cells.{datum_of};
-ghost use Rattle.plan.specs.Layouts.{view_at};
 ghost use Rattle.packet.specs.Codes.{mark_in};
 ghost use Rattle.packet.specs.Lines.{AreOf, entries_of};
 ghost use Rattle.packet.specs.Readers.{Reader as ReaderView, is_of, readers, readers_of};

@@ -1,6 +1,6 @@
 -- A list that is worked off from its beginning.
-use Rattle.std.proofs.Common.{◌≡◌, ℕ, zero, ◌+◌, ◌<◌, List, [], ◌∷◌, ◌++◌, length, map, take, drop, get_or, slice_get, Some, refl, ap, sym, ◌∙◌, add-zero}
-use Rattle.std.proofs.lemmas.List.{drop_more, get_or-drop, take_more}
+use Rattle.std.proofs.Common.{◌≡◌, ℕ, ◌+◌, ◌<◌, List, [], length, drop, get_or, slice_get, Some, refl, ap, sym, ◌∙◌, add-zero}
+use Rattle.std.proofs.lemmas.List.{drop_more, get_or-drop}
 use Rattle.std.proofs.lemmas.Option.{slice_get_read}
 
 -- the first of what is left is the next of all
