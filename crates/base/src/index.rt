@@ -1,9 +1,7 @@
 //! Rows of a base shard that are found by a column.
 ghost use Rattle.std.specs.Prelude.{◌≡◌, ◌≢◌, [], ◌∷◌, List, IfOk, IfSome, OnOk, OnErr, filter};
-ghost use Rattle.row.specs.Cells.{Cells, row_cmp};
-ghost use Rattle.row.specs.Bags.{IsAscending};
-ghost use Rattle.base.specs.Indexed.{AreIndexes, IsIndex, IsOf};
-ghost use Rattle.base.specs.Parts.{is_in};
+ghost use Rattle.row.specs.{Cells.Cells, Cells.row_cmp, Bags.IsAscending};
+ghost use Rattle.base.specs.{Indexed.AreIndexes, Indexed.IsIndex, Indexed.IsOf, Parts.is_in};
 
 use crate::part::Part;
 use row::grouped::Grouped;

@@ -2,17 +2,9 @@
 ghost use Rattle.std.specs.Prelude.{◌≡◌, ◌≢◌, ◌+◌, ◌++◌, ◌∷◌, [], List, filter, ◌<◌, ◌↔◌, true, false, IsTrue, IsOk, OnOk, IfOk, IfErr, IfSome, OnErr, IsOkUnless, Some, None, is_some, length};
 ghost use Rattle.std.specs.List.Sorted.{IsPermutation};
 ghost use Rattle.std.specs.HashMap.{get, spare, IsUnique};
-ghost use Rattle.row.specs.Bags.{IsAscending};
-ghost use Rattle.row.specs.Cells.{datum_of, cell_at, has, row_cmp};
-ghost use Rattle.row.specs.Changes.{Turns};
-ghost use Rattle.model.specs.Logs.{Change, inserts, deletes, updates, is_held, key_of, rows_of};
-ghost use Rattle.model.specs.Refusals.{full, refusal};
-ghost use Rattle.model.specs.Entries.{change_of};
-ghost use Rattle.base.specs.Shards.{Shard, IsAt, HasKey, HasRoom, adds_row, room_after, rows_with, rows_after, rows_changed, after_entry, refusal_of, verdict};
-ghost use Rattle.base.specs.Indexed.{IsOf};
-ghost use Rattle.base.specs.Parts.{found};
-ghost use Rattle.base.specs.Records.{plus_of, minus_of, records_of, records_at, record_count};
-ghost use Rattle.row.specs.Groups.{equal};
+ghost use Rattle.row.specs.{Bags.IsAscending, Cells.datum_of, Cells.cell_at, Cells.has, Cells.row_cmp, Changes.Turns, Groups.equal};
+ghost use Rattle.model.specs.{Logs.Change, Logs.inserts, Logs.deletes, Logs.updates, Logs.is_held, Logs.key_of, Logs.rows_of, Refusals.full, Refusals.refusal, Entries.change_of};
+ghost use Rattle.base.specs.{Shards.Shard, Shards.IsAt, Shards.HasKey, Shards.HasRoom, Shards.adds_row, Shards.room_after, Shards.rows_with, Shards.rows_after, Shards.rows_changed, Shards.after_entry, Shards.refusal_of, Shards.verdict, Indexed.IsOf, Parts.found, Records.plus_of, Records.minus_of, Records.records_of, Records.records_at, Records.record_count};
 
 use crate::index::{Index, copies_in, expect_all, indexes_by, lose_all, ready_by, settle_all};
 use crate::part::Part;
@@ -40,10 +32,8 @@ pub struct BaseShard {
 }
 
 impl Model for BaseShard {
-    ghost use Rattle.base.specs.Shards.{Shard};
+    ghost use Rattle.base.specs.{Shards.Shard, Indexed.AreIndexes, Stored.IsStored, Stored.stored};
     ghost use Rattle.std.specs.HashMap.{values};
-    ghost use Rattle.base.specs.Indexed.{AreIndexes};
-    ghost use Rattle.base.specs.Stored.{IsStored, stored};
 
     ghost Value = { Shard };
 

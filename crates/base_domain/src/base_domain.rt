@@ -1,25 +1,16 @@
 //! One base shard with the right to append to its log.
 ghost use Rattle.std.specs.Prelude.{◌≡◌, ◌≢◌, ◌<◌, ◌≤◌, Err, [], ◌∷◌, true, false, Some, None, length, map, replicate, IfOk, IfSome, OnOk, OnErr, IfErr, IsOkUnless};
-ghost use Rattle.model.specs.Entries.{change_of};
-ghost use Rattle.packet.specs.Messages.{none_of};
-ghost use Rattle.packet.specs.Outboxes.{IsClear, packets_on};
+ghost use Rattle.model.specs.{Entries.change_of, Places.layout_of, Places.table_of, Legal.limit};
+ghost use Rattle.packet.specs.{Messages.none_of, Outboxes.IsClear, Outboxes.packets_on, Codes.mark_of};
 ghost use Rattle.std.specs.List.{range_with_len};
-ghost use Rattle.base_domain.specs.Received.{Fails, Goes, IsAnswered, IsCutShort, IsDone, IsFor, IsReady, IsWrite, Stays, base_at, refusal_at};
-ghost use Rattle.packet.specs.Codes.{mark_of};
-ghost use Rattle.protocol.specs.Bases.{declined, next_of, request, marker};
-ghost use Rattle.model.specs.Places.{layout_of, table_of};
-ghost use Rattle.protocol.specs.BaseSteps.{appended, quiet, step, still, piece_for};
-ghost use Rattle.base_domain.specs.Codes.{message_of, write_of};
-ghost use Rattle.base_domain.specs.Told.{IsTurn, parts_in};
+ghost use Rattle.base_domain.specs.{Received.Fails, Received.Goes, Received.IsAnswered, Received.IsCutShort, Received.IsDone, Received.IsFor, Received.IsReady, Received.IsWrite, Received.Stays, Received.base_at, Received.refusal_at, Codes.message_of, Codes.write_of, Told.IsTurn, Told.parts_in};
+ghost use Rattle.protocol.specs.{Bases.declined, Bases.next_of, Bases.request, Bases.marker, BaseSteps.appended, BaseSteps.quiet, BaseSteps.step, BaseSteps.still, BaseSteps.piece_for};
 ghost use Rattle.base.specs.Shards.{HasKey, IsAt};
 ghost use Rattle.plan.specs.Layouts.{table_at};
-ghost use Rattle.model.specs.Legal.{limit};
 
 use crate::message::{ToBase, Write};
-use crate::packets::{marker_packet, piece_packet, side_at};
-use crate::ready::{ready_for, weigh};
-use crate::stage_parts::StageParts;
-use crate::tells::{answer, answer_accepted, decline, tell, turn_away};
+use crate::packets::{StageParts, marker_packet, piece_packet, side_at};
+use crate::writing::{answer, answer_accepted, decline, ready_for, tell, turn_away, weigh};
 use base::shard::BaseShard;
 use model::fronts::{Found, Fronts};
 use packet::base_packet::BasePacket;

@@ -4,6 +4,4 @@
 pub mod base_domain;
 pub mod message;
 pub mod packets;
-mod ready;
-mod stage_parts;
-mod tells;
+mod writing;

@@ -1,14 +1,12 @@
-//! The packets of a base shard that move no front: the answer to a request, and a marker.
-ghost use Rattle.std.specs.Prelude.{◌≡◌, ℕ, List, Some, None, IfOk};
+//! The packets of a base shard: those of an entry, the answer to a request, and a marker.
+ghost use Rattle.std.specs.Prelude.{◌<◌, ◌≡◌, ◌≤◌, IfOk, List, None, OnErr, Some, length, map, ℕ};
+ghost use Rattle.std.specs.List.{range_with_len};
 ghost use Rattle.std.specs.Option.{option_map};
-ghost use Rattle.model.specs.Logs.{Change};
-ghost use Rattle.model.specs.Places.{layout_of, table_of};
+ghost use Rattle.model.specs.{Logs.Change, Places.layout_of, Places.table_of};
 ghost use Rattle.base.specs.Shards.{IsAt};
-ghost use Rattle.packet.specs.Codes.{mark_of};
-ghost use Rattle.packet.specs.Readers.{side_in};
-ghost use Rattle.packet.specs.Truth.{base_piece, column_of};
-ghost use Rattle.protocol.specs.BaseSteps.{still, piece_for};
-ghost use Rattle.base_domain.specs.Codes.{base_of};
+ghost use Rattle.packet.specs.{Codes.mark_of, Readers.side_in, Truth.IsTrueBase, Truth.base_piece, Truth.column_of};
+ghost use Rattle.protocol.specs.BaseSteps.{piece_for, still};
+ghost use Rattle.base_domain.specs.{Codes.base_of, Told.part_packet};
 
 use base::part::Part;
 use base::shard::BaseShard;
@@ -19,8 +17,10 @@ use packet::request::{Marker, Request};
 use plan::domain::Tag;
 use plan::plan::Plan;
 use plan::stage::Side;
+use row::record::Record;
 use row::row::Row;
 use std::alloc::{AllocError, Global};
+use std::marker::Model;
 
 /// The packet of a marker to a stage shard, at the front. It takes no memory.
 pub fn marker_packet<F: Fronts>(alloc: Global, to: F, stage: usize, marker: Marker) -> BasePacket<F>
@@ -109,5 +109,60 @@ fn column_of(plan: &Plan, tag: Tag) -> usize
         plan.view(view).key()
     } else {
         0
+    }
+}
+
+/// The records of an entry for each stage shard, and room for as many packets, so that these are
+/// made with no memory but that of their fronts.
+#[derive(Drop)]
+pub(crate) struct StageParts<F: Fronts> {
+    records: Vec<Vec<Record>>,
+    room: Vec<BasePacket<F>>,
+}
+
+impl<F: Fronts> Model for StageParts<F> {
+    ghost use Rattle.std.specs.Prelude.{◌≡◌, ◌≤◌, [], List, length, map};
+    ghost use Rattle.std.specs.Vec.{vec_capacity};
+    ghost use Rattle.row.specs.declared.record.Record.{Record};
+
+    ghost Value = { List (List Record) };
+
+    ghost view = { λ p. map (λ w. w.items) p.records.items };
+
+    ghost invariant = { λ p. (p.room.items ≡ []) × (length p.records.items ≤ vec_capacity p.room) };
+}
+
+impl<F: Fronts> StageParts<F> {
+    /// These records, and room for a packet of each part. Errors: memory only.
+    pub(crate) fn new(alloc: Global, records: Vec<Vec<Record>>) -> Result<StageParts<F>, AllocError>
+        ensures { IfOk result (λ p. p ≡ map (λ w. w.items) records.items) }
+    {
+        let room = Vec::with_capacity(alloc, records.len())?;
+        Ok(StageParts { records, room })
+    }
+
+    /// The packet of each part, from so many entries on to the front of the right. Errors: memory,
+    /// and only for a front, where its kind may refuse.
+    pub(crate) fn packets(
+        self,
+        right: &F::Right,
+        alloc: Global,
+        from: u64,
+    ) -> Result<Vec<BasePacket<F>>, AllocError>
+        requires within { from ≤ length (F.log (F.front right.now)).entries }
+        requires truth { (j : ℕ) → j < length self
+            → IsTrueBase (part_packet (F.log (F.front right.now)) from self j) }
+        ensures packets { IfOk result (λ v. v.items ≡ map (part_packet
+            (F.log (F.front right.now)) from self) (range_with_len 0 (length self))) }
+        ensures only { OnErr result F.may_refuse }
+    {
+        let mut packets = self.room;
+        let mut stage = 0;
+        for changes in self.records {
+            let to = F::of(right, alloc)?;
+            packets.push_reserved(BasePacket::new(stage, from, to, changes, None, None));
+            stage += 1;
+        }
+        Ok(packets)
     }
 }

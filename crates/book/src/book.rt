@@ -1,8 +1,7 @@
 //! A book whose history stands in words that all threads share.
 ghost use Rattle.std.specs.Prelude.{◌≡◌, ◌+◌, ◌<◌, ◌++◌, [], ◌∷◌, IfOk, OnOk, length, map};
 ghost use Rattle.crossbeam_utils.specs.Padded.{padded_value};
-ghost use Rattle.book.specs.Pages.{opens, words_of, word_named};
-ghost use Rattle.book.specs.Rights.{empty_fronts, AreFresh};
+ghost use Rattle.book.specs.{Pages.opens, Pages.words_of, Pages.word_named, Rights.empty_fronts, Rights.AreFresh};
 ghost use Rattle.model.specs.Places.{base_count};
 ghost use Rattle.packet.specs.Readers.{readers, readers_of};
 

@@ -1,12 +1,8 @@
 //! Cuts: lengths of fronts, and one history for all of them.
 ghost use Rattle.std.specs.Prelude.{◌≡◌, ◌≢◌, ◌<◌, IsTrue, IsFalse, length, replicate, IfOk};
 ghost use mathlib.Core.List.{IsPrefix};
-ghost use Rattle.model.specs.Histories.{len_at};
-ghost use Rattle.book.specs.Fronts.{entries};
-ghost use Rattle.model.specs.Cuts.{IsWithin};
-ghost use Rattle.model.specs.Places.{base_count, sources as sources_of, source_at};
-ghost use Rattle.book.specs.Sessions.{fronts};
-ghost use Rattle.model.specs.Tables.{even_floors, with_floor, with_front, with_length};
+ghost use Rattle.model.specs.{Histories.len_at, Cuts.IsWithin, Places.base_count, Places.sources as sources_of, Places.source_at, Tables.even_floors, Tables.with_floor, Tables.with_front, Tables.with_length};
+ghost use Rattle.book.specs.{Fronts.entries, Sessions.fronts};
 ghost use Rattle.plan.specs.Layouts.{view_at};
 
 use crate::front::Front;
@@ -33,8 +29,7 @@ pub struct Cut<J: Naming> {
 impl<J: Naming> Model for Cut<J> {
     ghost use Rattle.std.specs.Prelude.{◌≡◌};
     ghost use Rattle.model.specs.Cuts.{IsWithin};
-    ghost use Rattle.book.specs.Pages.{IsLogOf, history_of};
-    ghost use Rattle.book.specs.Sessions.{CutView};
+    ghost use Rattle.book.specs.{Pages.IsLogOf, Pages.history_of, Sessions.CutView};
 
     ghost Value = { CutView };
 
@@ -54,8 +49,7 @@ pub struct Cuts<J: Naming> {
 
 impl<J: Naming> Model for Cuts<J> {
     ghost use Rattle.std.specs.Prelude.{◌≡◌};
-    ghost use Rattle.book.specs.Pages.{IsLogOf, history_of};
-    ghost use Rattle.book.specs.Sessions.{FloorsView, AreWithin};
+    ghost use Rattle.book.specs.{Pages.IsLogOf, Pages.history_of, Sessions.FloorsView, Sessions.AreWithin};
 
     ghost Value = { FloorsView };
 

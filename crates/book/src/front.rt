@@ -1,12 +1,8 @@
 //! Fronts: what is known of one log.
 ghost use Rattle.std.specs.Prelude.{◌≡◌, ◌+◌, ◌<◌, ◌≤◌, length, OnErr, OnOk};
 ghost use mathlib.Core.List.{IsPrefix};
-ghost use Rattle.model.specs.Entries.{change_of};
-ghost use Rattle.book.specs.Fronts.{FrontView, entries, authors, IsAppended, IsMoved, MayAppend};
-ghost use Rattle.model.specs.Histories.{log_of};
-ghost use Rattle.model.specs.Legal.{IsLegal};
-ghost use Rattle.book.specs.Pages.{IsLogOf, history_of};
-ghost use Rattle.model.specs.Places.{base_count};
+ghost use Rattle.model.specs.{Entries.change_of, Histories.log_of, Legal.IsLegal, Places.base_count};
+ghost use Rattle.book.specs.{Fronts.FrontView, Fronts.entries, Fronts.authors, Fronts.IsAppended, Fronts.IsMoved, Fronts.MayAppend, Pages.IsLogOf, Pages.history_of};
 
 use crate::book::{Book, Moved};
 use crate::law::{Add, Law, LogPage, Naming};
@@ -31,8 +27,7 @@ pub struct Front<J: Naming> {
 
 impl<J: Naming> Model for Front<J> {
     ghost use Rattle.std.specs.Prelude.{◌≡◌};
-    ghost use Rattle.book.specs.Fronts.{FrontView, IsFront};
-    ghost use Rattle.book.specs.Pages.{IsLogOf, history_of};
+    ghost use Rattle.book.specs.{Fronts.FrontView, Fronts.IsFront, Pages.IsLogOf, Pages.history_of};
 
     ghost Value = { FrontView };
 
@@ -53,9 +48,8 @@ pub struct Writing<'a> {
 
 impl<'a> Plain<Writing<'a>, LogPage, u64> for Add {
     ghost use Rattle.std.specs.Prelude.{None};
-    ghost use Rattle.model.specs.Histories.{write};
+    ghost use Rattle.model.specs.{Histories.write, Entries.change_of};
     ghost use Rattle.book.specs.Pages.{adds};
-    ghost use Rattle.model.specs.Entries.{change_of};
 
     ghost ask = { λ w. adds (write w.session w.number w.base (change_of w.entry.now)) };
 
@@ -154,8 +148,7 @@ impl<J: Naming> Front<J> {
 
 impl<J: Naming> Fronts for Front<J> {
     ghost use Rattle.std.specs.Prelude.{◌≡◌};
-    ghost use Rattle.book.specs.Fronts.{entries, authors};
-    ghost use Rattle.book.specs.Replies.{IsWhole};
+    ghost use Rattle.book.specs.{Fronts.entries, Fronts.authors, Replies.IsWhole};
 
     type Words = Book<J>;
 

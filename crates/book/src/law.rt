@@ -7,9 +7,8 @@ use std::marker::{Brand, Model};
 pub struct LogPage {}
 
 impl Model for LogPage {
-    ghost use Rattle.book.specs.Pages.{Page};
+    ghost use Rattle.book.specs.Pages.{Page, adds};
     ghost use Rattle.model.specs.Histories.{fence};
-    ghost use Rattle.book.specs.Pages.{adds};
     ghost use Rattle.std.specs.Prelude.{[]};
 
     ghost Value = { Page };

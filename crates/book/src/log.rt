@@ -1,13 +1,8 @@
 //! Logs: the right to append.
 ghost use Rattle.std.specs.Prelude.{◌≡◌, ◌<◌, ◌≤◌, [], ◌∷◌, length, OnOk, IfErr};
 ghost use mathlib.Core.List.{IsPrefix};
-ghost use Rattle.model.specs.Entries.{change_of};
-ghost use Rattle.model.specs.Histories.{log_of};
-ghost use Rattle.model.specs.Legal.{IsLegal};
-ghost use Rattle.model.specs.Places.{base_count};
-ghost use Rattle.book.specs.Fronts.{entries, authors, IsAppended, IsMoved, MayAppend};
-ghost use Rattle.book.specs.Pages.{opens};
-ghost use Rattle.book.specs.Rights.{empty_front};
+ghost use Rattle.model.specs.{Entries.change_of, Histories.log_of, Legal.IsLegal, Places.base_count};
+ghost use Rattle.book.specs.{Fronts.entries, Fronts.authors, Fronts.IsAppended, Fronts.IsMoved, Fronts.MayAppend, Pages.opens, Rights.empty_front};
 
 use crate::book::Book;
 use crate::front::Front;

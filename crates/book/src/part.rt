@@ -1,9 +1,8 @@
 //! What a caller has seen.
 ghost use Rattle.std.specs.Prelude.{◌≡◌, ◌<◌, ◌⊎◌};
 ghost use mathlib.Core.List.{IsPrefix};
-ghost use Rattle.model.specs.Legal.{IsLegal};
+ghost use Rattle.model.specs.{Legal.IsLegal, Places.base_count};
 ghost use Rattle.book.specs.Pages.{IsLogOf, history_of};
-ghost use Rattle.model.specs.Places.{base_count};
 
 use crate::front::Front;
 use crate::law::{Law, LogPage, Naming};
@@ -23,8 +22,7 @@ impl<J: Naming> Model for Part<J> {
     ghost use Rattle.std.specs.Prelude.{◌≡◌, ◌⊎◌, List};
     ghost use mathlib.Core.List.{IsPrefix};
     ghost use Rattle.model.specs.Histories.{Item};
-    ghost use Rattle.book.specs.Pages.{IsLogOf, history_of};
-    ghost use Rattle.book.specs.Replies.{longer};
+    ghost use Rattle.book.specs.{Pages.IsLogOf, Pages.history_of, Replies.longer};
 
     ghost Value = { List Item };
 

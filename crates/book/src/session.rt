@@ -1,16 +1,10 @@
 //! The word of a session.
 ghost use Rattle.std.specs.Prelude.{◌≡◌, ◌+◌, ◌<◌, ◌^◌, length, None, OnErr, OnOk, IfOk, ℕ, []};
 ghost use mathlib.Core.List.{IsPrefix};
-ghost use Rattle.row.specs.Bags.{Each};
-ghost use Rattle.row.specs.Cells.{datum_of};
+ghost use Rattle.row.specs.{Bags.Each, Cells.datum_of};
 ghost use Rattle.plan.specs.Layouts.{view_at};
-ghost use Rattle.model.specs.Cuts.{IsAtMost};
-ghost use Rattle.model.specs.Histories.{floor_at, view_shard};
-ghost use Rattle.book.specs.Pages.{IsLogOf, history_of};
-ghost use Rattle.model.specs.Legal.{IsOwn, IsPast, IsLegal, EachShard};
-ghost use Rattle.model.specs.Queries.{answer as answer_of};
-ghost use Rattle.book.specs.Sessions.{fronts, IsEnded, IsOwnAsk, IsOwnDone, IsRead, IsStolen};
-ghost use Rattle.model.specs.Tables.{places_of};
+ghost use Rattle.model.specs.{Cuts.IsAtMost, Histories.floor_at, Histories.view_shard, Legal.IsOwn, Legal.IsPast, Legal.IsLegal, Legal.EachShard, Queries.answer as answer_of, Tables.places_of};
+ghost use Rattle.book.specs.{Pages.IsLogOf, Pages.history_of, Sessions.fronts, Sessions.IsEnded, Sessions.IsOwnAsk, Sessions.IsOwnDone, Sessions.IsRead, Sessions.IsStolen};
 
 use crate::book::{Book, Moved};
 use crate::cut::{Cut, Cuts};
@@ -39,8 +33,7 @@ pub struct SessionWord<J: Naming> {
 
 impl<J: Naming> Model for SessionWord<J> {
     ghost use Rattle.std.specs.Prelude.{◌≡◌};
-    ghost use Rattle.book.specs.Pages.{IsLogOf, history_of};
-    ghost use Rattle.book.specs.Sessions.{SessionView, IsSession, session_with};
+    ghost use Rattle.book.specs.{Pages.IsLogOf, Pages.history_of, Sessions.SessionView, Sessions.IsSession, Sessions.session_with};
 
     ghost Value = { SessionView };
 
@@ -83,9 +76,8 @@ pub struct Fencing<'a> {
 
 impl<'a> Plain<Fencing<'a>, LogPage, u64> for Add {
     ghost use Rattle.std.specs.Prelude.{None};
-    ghost use Rattle.model.specs.Histories.{fence};
+    ghost use Rattle.model.specs.{Histories.fence, Tables.places_of};
     ghost use Rattle.book.specs.Pages.{adds};
-    ghost use Rattle.model.specs.Tables.{places_of};
 
     ghost ask = { λ f. adds (fence f.session (places_of f.own.now.items) f.floors.now) };
 

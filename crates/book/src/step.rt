@@ -1,9 +1,8 @@
 //! The three kinds of step on a shared book.
 ghost use Rattle.std.specs.Prelude.{◌≡◌, ◌+◌, ◌<◌, ◌^◌, None, OnErr, OnOk};
 ghost use mathlib.Core.List.{IsPrefix};
-ghost use Rattle.book.specs.Pages.{IsLogOf, IsAsk, IsDone, history_of};
+ghost use Rattle.book.specs.{Pages.IsLogOf, Pages.IsAsk, Pages.IsDone, Pages.history_of, Words.count_at};
 ghost use Rattle.model.specs.Places.{base_count};
-ghost use Rattle.book.specs.Words.{count_at};
 
 use crate::book::{Book, Moved};
 use crate::law::{Add, Law, LogPage, Look, Naming, Nothing};

@@ -37,8 +37,7 @@ pub struct Notes<'p, F: Fronts> {
 
 impl<'p, F: Fronts> Model for Notes<'p, F> {
     ghost use Rattle.std.specs.Prelude.{◌≡◌};
-    ghost use Rattle.plan.specs.Layouts.{Layout};
-    ghost use Rattle.plan.specs.Recipes.{notes_plan};
+    ghost use Rattle.plan.specs.{Layouts.Layout, Recipes.notes_plan};
     ghost use Rattle.domain_tests.specs.Notes.{no_notes, one_note, AreOne};
 
     ghost Value = { Layout };

@@ -1,8 +1,7 @@
 //! The domain of the only view shard of notes: what each message makes it put out.
 ghost use Rattle.std.specs.Prelude.{◌≡◌, IfOk};
 ghost use Rattle.plan.specs.Recipes.{notes_plan};
-ghost use Rattle.view_domain.specs.Codes.{IsFrom, Meets};
-ghost use Rattle.view_domain.specs.Domains.{Domain};
+ghost use Rattle.view_domain.specs.{Codes.IsFrom, Codes.Meets, Domains.Domain};
 ghost use Rattle.domain_tests.specs.Notes.{no_piece, first_view};
 
 use crate::notes::{AUTHOR, Notes};

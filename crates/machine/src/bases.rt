@@ -1,11 +1,8 @@
 //! Messages to base shards.
 ghost use Rattle.std.specs.Prelude.{◌≡◌, ◌<◌, true, length, map, slice_get, IfOk, IsTrue};
 ghost use Rattle.protocol.specs.WorldSteps.{is_up};
-ghost use Rattle.base_domain.specs.Codes.{message_of};
-ghost use Rattle.base_domain.specs.Received.{verdict_of};
-ghost use Rattle.machine.specs.Held.{IsPlaced, base_node};
-ghost use Rattle.machine.specs.Machines.{held};
-ghost use Rattle.machine.specs.Turned.{IsBaseGiven, IsForBase};
+ghost use Rattle.base_domain.specs.{Codes.message_of, Received.verdict_of};
+ghost use Rattle.machine.specs.{Held.IsPlaced, Held.base_node, Machines.held, Turned.IsBaseGiven, Turned.IsForBase};
 
 use crate::machine::Machine;
 use crate::turns::turn_base;

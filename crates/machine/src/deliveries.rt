@@ -1,10 +1,8 @@
 //! Deliveries: the first message of an edge goes to the domain at its end.
 ghost use Rattle.std.specs.Prelude.{IfOk};
-ghost use Rattle.protocol.specs.Edges.{queue};
-ghost use Rattle.protocol.specs.WorldSteps.{base_ask_came, delivery, stage_came};
+ghost use Rattle.protocol.specs.{Edges.queue, WorldSteps.base_ask_came, WorldSteps.delivery, WorldSteps.stage_came};
 ghost use Rattle.schedule.specs.Codes.{reply_of, wire_in};
-ghost use Rattle.machine.specs.Held.{AgreeingAreOne, IsDone, IsWhole, sent_in, world_of};
-ghost use Rattle.machine.specs.Machines.{held};
+ghost use Rattle.machine.specs.{Held.AgreeingAreOne, Held.IsDone, Held.IsWhole, Held.sent_in, Held.world_of, Machines.held};
 
 use crate::bases::{base_runs, give_base};
 use crate::machine::Machine;

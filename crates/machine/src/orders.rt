@@ -3,8 +3,7 @@ ghost use Rattle.std.specs.Prelude.{IfOk};
 ghost use Rattle.row.specs.Cells.{datum_of};
 ghost use Rattle.protocol.specs.Events.{evict_stage, evict_view};
 ghost use Rattle.schedule.specs.Codes.{reply_of};
-ghost use Rattle.machine.specs.Held.{Happens, IsWhole};
-ghost use Rattle.machine.specs.Machines.{held};
+ghost use Rattle.machine.specs.{Held.Happens, Held.IsWhole, Machines.held};
 
 use crate::machine::Machine;
 use crate::stages::{give_stage, stage_runs};

@@ -4,9 +4,7 @@ ghost use Rattle.packet.specs.declared.mode.Mode.TheVariants.{Running};
 ghost use Rattle.protocol.specs.WorldSteps.{is_up};
 ghost use Rattle.stage_steps.specs.Codes.{message_of};
 ghost use Rattle.stage_domain.specs.Domains.{Domain as StageState, Meets};
-ghost use Rattle.machine.specs.Held.{IsPlaced, stage_node};
-ghost use Rattle.machine.specs.Machines.{held};
-ghost use Rattle.machine.specs.Turned.{IsGiven};
+ghost use Rattle.machine.specs.{Held.IsPlaced, Held.stage_node, Machines.held, Turned.IsGiven};
 
 use crate::machine::Machine;
 use crate::turns::turn_stage;

@@ -2,9 +2,7 @@
 ghost use Rattle.std.specs.Prelude.{◌≡◌, ◌<◌, true, replicate, IfOk};
 ghost use Rattle.model.specs.Places.{base_count};
 ghost use Rattle.protocol.specs.Worlds.{start};
-ghost use Rattle.machine.specs.Held.{Are, IsWhole, world_of};
-ghost use Rattle.machine.specs.Machines.{held};
-ghost use Rattle.machine.specs.Started.{AreFirst, AreNewStages, IsFirst, IsNewBase, first_logs, new_sessions, new_views};
+ghost use Rattle.machine.specs.{Held.Are, Held.IsWhole, Held.world_of, Machines.held, Started.AreFirst, Started.AreNewStages, Started.IsFirst, Started.IsNewBase, Started.first_logs, Started.new_sessions, Started.new_views};
 
 use crate::machine::Machine;
 use base_domain::base_domain::BaseDomain;

@@ -1,9 +1,7 @@
 //! Stops: a domain of the plan runs no more.
 ghost use Rattle.protocol.specs.WorldSteps.{stop_at};
 ghost use Rattle.schedule.specs.Codes.{reply_of};
-ghost use Rattle.machine.specs.Held.{IsAt, IsDone, IsPlaced, IsWhole, world_of};
-ghost use Rattle.machine.specs.Machines.{held};
-ghost use Rattle.machine.specs.Stopped.{stopped_at};
+ghost use Rattle.machine.specs.{Held.IsAt, Held.IsDone, Held.IsPlaced, Held.IsWhole, Held.world_of, Machines.held, Stopped.stopped_at};
 
 use crate::machine::Machine;
 use model::fronts::Fronts;

@@ -1,23 +1,13 @@
 //! One message to one domain: what it makes of the domain, and of the queues that it sends to.
 ghost use Rattle.std.specs.Prelude.{◌≡◌, ◌≢◌, false, length, Some, IfOk, OnOk, IsFalse};
-ghost use Rattle.model.specs.Legal.{most_sessions};
-ghost use Rattle.model.specs.Places.{sources};
-ghost use Rattle.packet.specs.Codes.{marks_in};
-ghost use Rattle.packet.specs.Readers.{readers};
-ghost use Rattle.packet.specs.declared.mode.Mode.TheVariants.{Running};
-ghost use Rattle.protocol.specs.Bases.{declined};
-ghost use Rattle.protocol.specs.BaseSteps.{step as base_step};
-ghost use Rattle.protocol.specs.Edges.{source_place};
-ghost use Rattle.protocol.specs.StageSteps.{step as stage_step};
-ghost use Rattle.protocol.specs.ViewSteps.{step as view_step};
-ghost use Rattle.base_domain.specs.Codes.{message_of as base_message};
-ghost use Rattle.base_domain.specs.Received.{IsFor, base_at, verdict_of};
+ghost use Rattle.model.specs.{Legal.most_sessions, Places.sources};
+ghost use Rattle.packet.specs.{Codes.marks_in, Readers.readers, declared.mode.Mode.TheVariants.Running};
+ghost use Rattle.protocol.specs.{Bases.declined, BaseSteps.step as base_step, Edges.source_place, StageSteps.step as stage_step, ViewSteps.step as view_step};
+ghost use Rattle.base_domain.specs.{Codes.message_of as base_message, Received.IsFor, Received.base_at, Received.verdict_of};
 ghost use Rattle.stage_steps.specs.Codes.{message_of as stage_message};
 ghost use Rattle.stage_domain.specs.Domains.{Meets as StageMeets, stage_of};
-ghost use Rattle.view_domain.specs.Codes.{message_of as view_message, Meets as ViewMeets};
-ghost use Rattle.view_domain.specs.Domains.{view_of};
-ghost use Rattle.machine.specs.Held.{IsStageOf, IsViewOf};
-ghost use Rattle.machine.specs.Turned.{IsBaseTurn, IsStageTurn, IsViewTurn};
+ghost use Rattle.view_domain.specs.{Codes.message_of as view_message, Codes.Meets as ViewMeets, Domains.view_of};
+ghost use Rattle.machine.specs.{Held.IsStageOf, Held.IsViewOf, Turned.IsBaseTurn, Turned.IsStageTurn, Turned.IsViewTurn};
 
 use base_domain::base_domain::BaseDomain;
 use base_domain::message::ToBase;

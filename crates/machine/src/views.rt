@@ -3,10 +3,8 @@ ghost use Rattle.std.specs.Prelude.{◌≡◌, ◌<◌, true, length, map, slice
 ghost use Rattle.packet.specs.declared.mode.Mode.TheVariants.{Running};
 ghost use Rattle.protocol.specs.WorldSteps.{ack_from, is_up, lengths_of, view_takes};
 ghost use Rattle.schedule.specs.Codes.{reply_of};
-ghost use Rattle.view_domain.specs.Domains.{Domain as ViewState, lines_of};
-ghost use Rattle.view_domain.specs.Codes.{message_of, Meets};
-ghost use Rattle.machine.specs.Held.{IsDone, IsPlaced, view_node, world_of};
-ghost use Rattle.machine.specs.Machines.{held};
+ghost use Rattle.view_domain.specs.{Domains.Domain as ViewState, Domains.lines_of, Codes.message_of, Codes.Meets};
+ghost use Rattle.machine.specs.{Held.IsDone, Held.IsPlaced, Held.view_node, Held.world_of, Machines.held};
 
 use crate::machine::Machine;
 use crate::turns::turn_view;

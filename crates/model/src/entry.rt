@@ -1,7 +1,6 @@
 //! Entries of a log.
 ghost use Rattle.std.specs.Prelude.{◌≡◌, ◌<◌, ◌↔◌, length, IfOk, IsTrue};
-ghost use Rattle.model.specs.Logs.{fits};
-ghost use Rattle.model.specs.Entries.{change_of};
+ghost use Rattle.model.specs.{Logs.fits, Entries.change_of};
 
 use plan::table::Table;
 use row::row::Row;

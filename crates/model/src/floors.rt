@@ -1,7 +1,6 @@
 //! Floors of a session.
 ghost use Rattle.std.specs.Prelude.{◌≡◌, ◌<◌, [], length, map, slice_index_or, replicate, IfOk, ℕ};
-ghost use Rattle.model.specs.Histories.{floor_at};
-ghost use Rattle.model.specs.Tables.{with_floor, even_floors, IsTable};
+ghost use Rattle.model.specs.{Histories.floor_at, Tables.with_floor, Tables.even_floors, Tables.IsTable};
 
 use crate::lengths::Lengths;
 use plan::plan::Plan;

@@ -1,9 +1,6 @@
 //! What a domain asks of a front, wherever its log stands.
 ghost use Rattle.std.specs.Prelude.{◌≡◌, List, length, IfOk, OnErr};
-ghost use Rattle.model.specs.Entries.{change_of};
-ghost use Rattle.model.specs.Fronts.{LogView, IsLog, Agree, AllowsEntry, IsLonger, with_entry, with_author};
-ghost use Rattle.model.specs.Histories.{Author};
-ghost use Rattle.model.specs.Steps.{OnHere, OnStay, IfMoved};
+ghost use Rattle.model.specs.{Entries.change_of, Fronts.LogView, Fronts.IsLog, Fronts.Agree, Fronts.AllowsEntry, Fronts.IsLonger, Fronts.with_entry, Fronts.with_author, Histories.Author, Steps.OnHere, Steps.OnStay, Steps.IfMoved};
 
 use crate::entry::Entry;
 use std::alloc::{AllocError, Global};

@@ -1,7 +1,6 @@
 //! Lengths of the sources' logs, one for each stage shard and source.
 ghost use Rattle.std.specs.Prelude.{◌≡◌, ◌≢◌, ◌<◌, [], ◌∷◌, ◌++◌, IsTrue, IsFalse, length, map, replicate, slice_index_or, IfOk, OnOk, OnErr};
-ghost use Rattle.model.specs.Histories.{len_at};
-ghost use Rattle.model.specs.Tables.{with_length};
+ghost use Rattle.model.specs.{Histories.len_at, Tables.with_length};
 
 use smallvec::SmallVec;
 use std::alloc::{AllocError, Global};

@@ -1,8 +1,6 @@
 //! Fronts over plain lists, for runs with no words that threads share.
 ghost use Rattle.std.specs.Prelude.{◌≡◌, ◌<◌, ◌+◌, [], length, IfOk};
-ghost use Rattle.model.specs.Fronts.{IsLog, Agree};
-ghost use Rattle.model.specs.Lists.{ListView, changes_of, authors_of};
-ghost use Rattle.model.specs.Places.{base_count};
+ghost use Rattle.model.specs.{Fronts.IsLog, Fronts.Agree, Lists.ListView, Lists.changes_of, Lists.authors_of, Places.base_count};
 
 use crate::blocks::Blocks;
 use crate::entry::Entry;
@@ -31,8 +29,7 @@ pub struct ListFront<'p> {
 
 impl<'p> Model for ListFront<'p> {
     ghost use Rattle.std.specs.Prelude.{◌≡◌, length};
-    ghost use Rattle.model.specs.Fronts.{IsLog};
-    ghost use Rattle.model.specs.Lists.{ListView, changes_of, authors_of};
+    ghost use Rattle.model.specs.{Fronts.IsLog, Lists.ListView, Lists.changes_of, Lists.authors_of};
 
     ghost Value = { ListView };
 

@@ -1,8 +1,7 @@
 //! Numbers of base shards.
 ghost use Rattle.std.specs.Prelude.{◌≡◌, ◌≤◌, ◌<◌, ◌+◌, ◌*◌, ◌++◌, length, map, IfOk, OnOk, MatchOption};
 ghost use Rattle.row.specs.Bags.{Each};
-ghost use Rattle.plan.specs.Layouts.{table_at};
-ghost use Rattle.plan.specs.Domains.{sources as domain_sources};
+ghost use Rattle.plan.specs.{Layouts.table_at, Domains.sources as domain_sources};
 ghost use Rattle.model.specs.Places.{IsPlaceOf, base_at, base_count, layout_of, number_of, shard_of, shards_before, side_bases, side_count, source_at, sources};
 
 use plan::plan::Plan;

@@ -1,9 +1,7 @@
 //! The filter of a side: the rows, and the changes, for which its conditions hold.
 ghost use Rattle.std.specs.Prelude.{◌≡◌, IfOk, filter, List};
-ghost use Rattle.row.specs.Bags.{sorted};
-ghost use Rattle.row.specs.Cells.{Cells, row_cmp};
+ghost use Rattle.row.specs.{Bags.sorted, Cells.Cells, Cells.row_cmp, Changes.Turns};
 ghost use Rattle.plan.specs.Outputs.{pass};
-ghost use Rattle.row.specs.Changes.{Turns};
 ghost use Rattle.ops.specs.Changes.{kept};
 
 use plan::stage::Side;

@@ -1,8 +1,7 @@
 //! What a base shard tells a stage shard.
 ghost use Rattle.std.specs.Prelude.{◌≡◌, ◌≤◌, length};
 ghost use Rattle.std.specs.Option.{option_map};
-ghost use Rattle.packet.specs.Codes.{mark_in, packet_of, EndsAt};
-ghost use Rattle.packet.specs.Truth.{IsTrueBase};
+ghost use Rattle.packet.specs.{Codes.mark_in, Codes.packet_of, Codes.EndsAt, Truth.IsTrueBase};
 
 use crate::piece::Piece;
 use crate::request::Marker;
@@ -26,9 +25,7 @@ pub struct BasePacket<F: Fronts> {
 
 impl<F: Fronts> Model for BasePacket<F> {
     ghost use Rattle.std.specs.Prelude.{length, ◌≤◌};
-    ghost use Rattle.packet.specs.Messages.{BasePacketView};
-    ghost use Rattle.packet.specs.Codes.{mark_in, packet_of};
-    ghost use Rattle.packet.specs.Truth.{IsTrueBase};
+    ghost use Rattle.packet.specs.{Messages.BasePacketView, Codes.mark_in, Codes.packet_of, Truth.IsTrueBase};
 
     ghost Value = { BasePacketView };
 

@@ -1,7 +1,6 @@
 //! What is put out on edges.
 ghost use Rattle.std.specs.Prelude.{◌≡◌, ◌<◌, [], ◌∷◌, map, length, slice_index_or, slice_set, IfOk, OnOk, OnErr, IsOkUnless};
-ghost use Rattle.packet.specs.Messages.{none_of, to_one};
-ghost use Rattle.packet.specs.Outboxes.{HaveRoom, no_edge, packets_on, with_one, with_packet, with_packet_on};
+ghost use Rattle.packet.specs.{Messages.none_of, Messages.to_one, Outboxes.HaveRoom, Outboxes.no_edge, Outboxes.packets_on, Outboxes.with_one, Outboxes.with_packet, Outboxes.with_packet_on};
 
 use row::refused::Refused;
 use std::alloc::{AllocError, Global};

@@ -2,14 +2,9 @@
 ghost use Rattle.std.specs.Prelude.{◌≡◌, ◌++◌, ◌∷◌, ◌||◌, [], IfOk, OnOk, OnErr, if◌then◌else◌};
 ghost use Rattle.std.specs.List.{IsDistinct};
 ghost use Rattle.std.specs.Map.{keys_of};
-ghost use Rattle.row.specs.Cells.{Datum, datum_of, same};
-ghost use Rattle.row.specs.BagChanges.{with_records};
-ghost use Rattle.row.specs.Changes.{IsCovered};
-ghost use Rattle.row.specs.Groups.{equal};
+ghost use Rattle.row.specs.{Cells.Datum, Cells.datum_of, Cells.same, BagChanges.with_records, Changes.IsCovered, Groups.equal};
 ghost use Rattle.partial.specs.States.{ChangeFits, OthersStay, after_change, state_of};
-ghost use Rattle.packet.specs.Keys.{is_among, stands_of};
-ghost use Rattle.packet.specs.Groups.{records_at, names_of, named_in};
-ghost use Rattle.packet.specs.Truth.{changes_at};
+ghost use Rattle.packet.specs.{Keys.is_among, Keys.stands_of, Groups.records_at, Groups.names_of, Groups.named_in, Truth.changes_at};
 
 use crate::keyed::Keyed;
 use indexmap::IndexMap;

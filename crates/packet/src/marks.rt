@@ -1,10 +1,7 @@
 //! Markers that have not come from all senders.
 ghost use Rattle.std.specs.Prelude.{◌≡◌, ◌<◌, ◌∷◌, [], length, position, slice_index_or, IfOk, OnOk, OnErr};
 ghost use Rattle.row.specs.Bags.{Each};
-ghost use Rattle.packet.specs.Codes.{mark_of, marks_in};
-ghost use Rattle.packet.specs.Marks.{IsWaiting, arrived, come, complete, first_of, has_come, partly};
-ghost use Rattle.packet.specs.Leaves.{left_at, no_gathering, OthersWait};
-ghost use Rattle.packet.specs.Messages.{is_mark};
+ghost use Rattle.packet.specs.{Codes.mark_of, Codes.marks_in, Marks.IsWaiting, Marks.arrived, Marks.come, Marks.complete, Marks.first_of, Marks.has_come, Marks.partly, Leaves.left_at, Leaves.no_gathering, Leaves.OthersWait, Messages.is_mark};
 
 use crate::request::Marker;
 use std::alloc::{AllocError, Global};
@@ -18,8 +15,7 @@ struct Gathering {
 }
 
 impl Model for Gathering {
-    ghost use Rattle.packet.specs.Codes.{mark_of};
-    ghost use Rattle.packet.specs.Marks.{Gathering as GatheringView};
+    ghost use Rattle.packet.specs.{Codes.mark_of, Marks.Gathering as GatheringView};
 
     ghost Value = { GatheringView };
 

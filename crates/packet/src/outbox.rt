@@ -1,7 +1,6 @@
 //! What a base domain puts out.
 ghost use Rattle.std.specs.Prelude.{◌≡◌, ◌<◌, [], ◌∷◌, None, Some, map, length, slice_index_or, slice_set, IfOk, OnOk, OnErr, IsOkUnless};
-ghost use Rattle.packet.specs.Messages.{none_of, to_one};
-ghost use Rattle.packet.specs.Outboxes.{IsClear, HaveRoom, no_edge, packets_on};
+ghost use Rattle.packet.specs.{Messages.none_of, Messages.to_one, Outboxes.IsClear, Outboxes.HaveRoom, Outboxes.no_edge, Outboxes.packets_on};
 
 use crate::answer::Answer;
 use crate::base_packet::BasePacket;

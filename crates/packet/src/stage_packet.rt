@@ -1,8 +1,6 @@
 //! What a stage shard tells a view shard.
 ghost use Rattle.std.specs.Prelude.{◌≡◌};
-ghost use Rattle.packet.specs.Codes.{stage_packet_of};
-ghost use Rattle.packet.specs.Lines.{AreOf, entries_of, plan_of};
-ghost use Rattle.packet.specs.Truth.{IsTrueStage};
+ghost use Rattle.packet.specs.{Codes.stage_packet_of, Lines.AreOf, Lines.entries_of, Lines.plan_of, Truth.IsTrueStage};
 
 use crate::keyed::Keyed;
 use crate::line::Line;
@@ -37,10 +35,7 @@ pub struct StagePacket<F: Fronts> {
 }
 
 impl<F: Fronts> Model for StagePacket<F> {
-    ghost use Rattle.packet.specs.Messages.{StagePacketView};
-    ghost use Rattle.packet.specs.Codes.{stage_packet_of};
-    ghost use Rattle.packet.specs.Lines.{AreOf, plan_of};
-    ghost use Rattle.packet.specs.Truth.{IsTrueStage};
+    ghost use Rattle.packet.specs.{Messages.StagePacketView, Codes.stage_packet_of, Lines.AreOf, Lines.plan_of, Truth.IsTrueStage};
 
     ghost Value = { StagePacketView };
 

@@ -1,11 +1,7 @@
 //! Bags of rows are gathered: a change is a list of signed rows, and the sum that of bags.
 ghost use Rattle.std.specs.Prelude.{◌≡◌, ◌+◌, IfOk, OnOk};
-ghost use Rattle.row.specs.Cells.{Cells, row_cmp};
-ghost use Rattle.row.specs.Bags.{times, sorted, IsAscending};
-ghost use Rattle.row.specs.Changes.{IsCovered};
-ghost use Rattle.row.specs.BagChanges.{with_records};
-ghost use Rattle.partial.specs.Sums.{sum_of_bags};
-ghost use Rattle.partial.specs.BagLaws.{total_changes, total_fits};
+ghost use Rattle.row.specs.{Cells.Cells, Cells.row_cmp, Bags.times, Bags.sorted, Bags.IsAscending, Changes.IsCovered, BagChanges.with_records};
+ghost use Rattle.partial.specs.{Sums.sum_of_bags, BagLaws.total_changes, BagLaws.total_fits};
 
 use crate::gather::Gather;
 use row::bag::Bag;

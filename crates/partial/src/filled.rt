@@ -6,8 +6,7 @@ ghost use Rattle.std.specs.Iterator.{at_most};
 ghost use Rattle.std.specs.Map.{lookup, keys_of};
 ghost use Rattle.std.specs.Set.{remove_key};
 ghost use Rattle.std.specs.List.{IsDistinct};
-ghost use Rattle.row.specs.Bags.{times, inserted, removed};
-ghost use Rattle.row.specs.Cells.{row_cmp};
+ghost use Rattle.row.specs.{Bags.times, Bags.inserted, Bags.removed, Cells.row_cmp};
 ghost use Rattle.partial.specs.States.{changed_at};
 
 use crate::gather::Gather;

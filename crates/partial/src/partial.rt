@@ -6,10 +6,8 @@ ghost use Rattle.std.specs.Option.{option_copied, ForSome};
 ghost use Rattle.std.specs.Set.{remove_key};
 ghost use Rattle.std.specs.List.{IsDistinct};
 ghost use Rattle.std.specs.Map.{lookup};
-ghost use Rattle.row.specs.Bags.{times, inserted, removed};
-ghost use Rattle.row.specs.Cells.{row_cmp};
-ghost use Rattle.partial.specs.States.{Kept, IsApart, state_of, order_of, OthersStay, GoesLast, Hole, is_hole, is_waiting, changed_at, entry_of, begun, fills, evicted, says_evicted, after_piece, after_change, ChangeFits};
-ghost use Rattle.partial.specs.Truth.{IsTrueOf, with_part};
+ghost use Rattle.row.specs.{Bags.times, Bags.inserted, Bags.removed, Cells.row_cmp};
+ghost use Rattle.partial.specs.{States.Kept, States.IsApart, States.state_of, States.order_of, States.OthersStay, States.GoesLast, States.Hole, States.is_hole, States.is_waiting, States.changed_at, States.entry_of, States.begun, States.fills, States.evicted, States.says_evicted, States.after_piece, States.after_change, States.ChangeFits, Truth.IsTrueOf, Truth.with_part};
 
 use crate::filled::{Filled, Walk};
 use crate::gather::Gather;

@@ -1,10 +1,7 @@
 //! Cuts over a history: whether they are within its logs, how two of them stand, and the fronts
 //! that they name.
 ghost use Rattle.std.specs.Prelude.{◌≡◌, ◌≤◌, ℕ, slice_index_or, IfOk};
-ghost use Rattle.model.specs.Cuts.{IsAtMost, line_of, fronts_of, IsWithin};
-ghost use Rattle.model.specs.Histories.{len_at};
-ghost use Rattle.model.specs.Places.{sources};
-ghost use Rattle.model.specs.Items.{history_of};
+ghost use Rattle.model.specs.{Cuts.IsAtMost, Cuts.line_of, Cuts.fronts_of, Cuts.IsWithin, Histories.len_at, Places.sources, Items.history_of};
 ghost use Rattle.plain.specs.Tells.{Tells, IsLineWithin};
 
 use crate::front::Line;

@@ -2,10 +2,7 @@
 ghost use Rattle.std.specs.Prelude.{◌≡◌, ◌==◌, ◌&&◌, ◌<◌, ℕ, [], length};
 ghost use Rattle.row.specs.Cells.{datum_of};
 ghost use Rattle.plan.specs.Layouts.{view_at};
-ghost use Rattle.model.specs.Cuts.{IsAtMost, IsWithin};
-ghost use Rattle.model.specs.Histories.{floor_at, floor_in, floor_of, last_or, view_shard};
-ghost use Rattle.model.specs.Legal.{EachShard};
-ghost use Rattle.model.specs.Items.{item_of, history_of};
+ghost use Rattle.model.specs.{Cuts.IsAtMost, Cuts.IsWithin, Histories.floor_at, Histories.floor_in, Histories.floor_of, Histories.last_or, Histories.view_shard, Legal.EachShard, Items.item_of, Items.history_of};
 ghost use Rattle.plain.specs.Tells.{Tells};
 
 use crate::cuts::{is_at_most, is_within};

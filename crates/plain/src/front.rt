@@ -1,8 +1,7 @@
 //! Fronts: the first entries of a log.
 ghost use Rattle.std.specs.Prelude.{◌≡◌, ◌<◌, map, length};
 ghost use Rattle.std.specs.List.{list_all};
-ghost use Rattle.model.specs.Entries.{change_of};
-ghost use Rattle.model.specs.Logs.{fits};
+ghost use Rattle.model.specs.{Entries.change_of, Logs.fits};
 
 use model::entry::Entry;
 use plan::table::Table;
@@ -16,8 +15,7 @@ pub struct Front {
 
 impl Model for Front {
     ghost use Rattle.std.specs.Prelude.{List, map};
-    ghost use Rattle.model.specs.Logs.{Change};
-    ghost use Rattle.model.specs.Entries.{change_of};
+    ghost use Rattle.model.specs.{Logs.Change, Entries.change_of};
 
     ghost Value = { List Change };
 

@@ -1,15 +1,8 @@
 //! Whether a history is legal.
 ghost use Rattle.std.specs.Prelude.{◌≡◌, ◌≢◌, ◌<◌, IfOk};
-ghost use Rattle.row.specs.Bags.{Each};
-ghost use Rattle.row.specs.Cells.{datum_of, shard};
-ghost use Rattle.model.specs.Entries.{change_of};
-ghost use Rattle.model.specs.Histories.{Author as AuthorView};
-ghost use Rattle.model.specs.Legal.{Allows, AllowsWrite, AllowsRead, AllowsFence, IsLegal};
-ghost use Rattle.model.specs.Logs.{key_of};
-ghost use Rattle.model.specs.Items.{item_of, history_of};
-ghost use Rattle.plain.specs.Tells.{Tells};
-ghost use Rattle.model.specs.Tables.{places_of};
-ghost use Rattle.plain.specs.Verdicts.{IsVerdict};
+ghost use Rattle.row.specs.{Bags.Each, Cells.datum_of, Cells.shard};
+ghost use Rattle.model.specs.{Entries.change_of, Histories.Author as AuthorView, Legal.Allows, Legal.AllowsWrite, Legal.AllowsRead, Legal.AllowsFence, Legal.IsLegal, Logs.key_of, Items.item_of, Items.history_of, Tables.places_of};
+ghost use Rattle.plain.specs.{Tells.Tells, Verdicts.IsVerdict};
 
 use crate::cuts::{fronts_of, is_at_most, is_within};
 use crate::floors::{are_above, are_within, floor_of, view_shard};

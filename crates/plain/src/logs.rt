@@ -1,8 +1,6 @@
 //! The logs of a history, and who wrote them.
 ghost use Rattle.std.specs.Prelude.{◌≡◌, ◌++◌, length, map, take, if◌then◌else◌, IfOk, OnOk};
-ghost use Rattle.model.specs.Entries.{change_of};
-ghost use Rattle.model.specs.Histories.{entry_in, log_of, author_in, authors_of};
-ghost use Rattle.model.specs.Items.{item_of, history_of};
+ghost use Rattle.model.specs.{Entries.change_of, Histories.entry_in, Histories.log_of, Histories.author_in, Histories.authors_of, Items.item_of, Items.history_of};
 
 use crate::front::Front;
 use model::entry::Entry;

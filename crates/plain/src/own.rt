@@ -2,11 +2,7 @@
 ghost use Rattle.std.specs.Prelude.{◌≡◌, ◌<◌, ℕ, [], length, IfOk};
 ghost use Rattle.row.specs.Bags.{Each};
 ghost use Rattle.plan.specs.Layouts.{view_at};
-ghost use Rattle.model.specs.Histories.{floor_at, len_at};
-ghost use Rattle.model.specs.Legal.{EachShard, IsPast, IsOwn};
-ghost use Rattle.model.specs.Places.{sources, source_at};
-ghost use Rattle.model.specs.Tables.{place_of, places_of};
-ghost use Rattle.model.specs.Items.{history_of};
+ghost use Rattle.model.specs.{Histories.floor_at, Histories.len_at, Legal.EachShard, Legal.IsPast, Legal.IsOwn, Places.sources, Places.source_at, Tables.place_of, Tables.places_of, Items.history_of};
 ghost use Rattle.plain.specs.Tells.{Tells, IsSource};
 
 use crate::logs::authors_of;

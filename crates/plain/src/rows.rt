@@ -1,9 +1,7 @@
 //! The rows of a front, and what is lawful and what is refused there.
 ghost use Rattle.std.specs.Prelude.{◌≡◌, ◌∷◌, [], ◌++◌, not, map, cond, filter, IfOk, length};
 ghost use Rattle.row.specs.Cells.{datum_of, cell_at, has};
-ghost use Rattle.model.specs.Logs.{changed, rows_of, is_held, lawful};
-ghost use Rattle.model.specs.Refusals.{refusal, full};
-ghost use Rattle.model.specs.Entries.{change_of};
+ghost use Rattle.model.specs.{Logs.changed, Logs.rows_of, Logs.is_held, Logs.lawful, Refusals.refusal, Refusals.full, Entries.change_of};
 
 use crate::front::Front;
 use model::entry::Entry;

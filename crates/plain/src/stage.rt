@@ -2,8 +2,7 @@
 ghost use Rattle.std.specs.Prelude.{◌≡◌, ◌<◌, IfOk, length, take, drop, Some, None, true};
 ghost use Rattle.std.specs.List.{list_all};
 ghost use Rattle.plan.specs.Outputs.{pass};
-ghost use Rattle.model.specs.Places.{side_count};
-ghost use Rattle.model.specs.Queries.{side_share, side_rows, left, right};
+ghost use Rattle.model.specs.{Places.side_count, Queries.side_share, Queries.side_rows, Queries.left, Queries.right};
 ghost use Rattle.plain.specs.Fitting.{is_line, all_fit};
 
 use crate::front::{Front, Line};

@@ -1,7 +1,6 @@
 //! Drafts: the parts of a plan, before it is known whether they make one.
 ghost use Rattle.std.specs.Prelude.{◌≡◌};
-ghost use Rattle.plan.specs.Layouts.{kind_at, table_at};
-ghost use Rattle.plan.specs.Profile.{is_one_kind, told, told_table, width_at, both_apart, has_view_names, has_names, is_key_of, is_aggregate};
+ghost use Rattle.plan.specs.{Layouts.kind_at, Layouts.table_at, Profile.is_one_kind, Profile.told, Profile.told_table, Profile.width_at, Profile.both_apart, Profile.has_view_names, Profile.has_names, Profile.is_key_of, Profile.is_aggregate};
 
 use crate::kinds::{Aggregate, Kind};
 use crate::names::{are_apart, is_new};

@@ -1,8 +1,7 @@
 //! Words of a plan that hold numbers alone.
 ghost use Rattle.std.specs.Prelude.{◌≡◌};
 ghost use Rattle.row.specs.Cells.{datum_of};
-ghost use Rattle.plan.specs.Kinds.{is_cell, is_plain};
-ghost use Rattle.plan.specs.Outputs.{compares};
+ghost use Rattle.plan.specs.{Kinds.is_cell, Kinds.is_plain, Outputs.compares};
 
 use row::value::Value;
 use std::cmp::Ordering;

@@ -2,8 +2,7 @@
 ghost use Rattle.std.specs.Prelude.{◌≡◌};
 ghost use Rattle.std.specs.List.{list_all};
 ghost use Rattle.std.specs.Option.{is_none};
-ghost use Rattle.plan.specs.Layouts.{ViewLayout};
-ghost use Rattle.plan.specs.Profile.{if_there, width_at, table_is_small, side_is_small, view_is_small, tables_are_small, stage_is_small, views_are_small, keeps_limits, is_not_stage, table_is_apart, has_own_names, key_is_known, side_is_known, sides_are_known, sum_is_known, right_width, has_column, view_keys_are_known, has_known_places, has_single_paths, has_left_keys, sides_agree, side_agrees, values_agree, has_one_kind, refusal};
+ghost use Rattle.plan.specs.{Layouts.ViewLayout, Profile.if_there, Profile.width_at, Profile.table_is_small, Profile.side_is_small, Profile.view_is_small, Profile.tables_are_small, Profile.stage_is_small, Profile.views_are_small, Profile.keeps_limits, Profile.is_not_stage, Profile.table_is_apart, Profile.has_own_names, Profile.key_is_known, Profile.side_is_known, Profile.sides_are_known, Profile.sum_is_known, Profile.right_width, Profile.has_column, Profile.view_keys_are_known, Profile.has_known_places, Profile.has_single_paths, Profile.has_left_keys, Profile.sides_agree, Profile.side_agrees, Profile.values_agree, Profile.has_one_kind, Profile.refusal};
 
 use crate::draft::{Draft, is_one_kind};
 use crate::kinds::Aggregate;

@@ -1,11 +1,7 @@
 //! A checked plan, which contracts see as its layout.
 ghost use Rattle.std.specs.Prelude.{◌≡◌, ◌<◌, ◌≤◌, IfOk, IfSome, MatchOption, length, string_bytes};
 ghost use Rattle.std.specs.Option.{option_copied};
-ghost use Rattle.plan.specs.Layouts.{ViewLayout, table_at, table_named, view_at, view_named};
-ghost use Rattle.plan.specs.Facts.{Facts};
-ghost use Rattle.plan.specs.Outputs.{key_place};
-ghost use Rattle.plan.specs.Profile.{IsPlan};
-ghost use Rattle.plan.specs.Recipes.{notes_plan, view};
+ghost use Rattle.plan.specs.{Layouts.ViewLayout, Layouts.table_at, Layouts.table_named, Layouts.view_at, Layouts.view_named, Facts.Facts, Outputs.key_place, Profile.IsPlan, Recipes.notes_plan, Recipes.view};
 
 use crate::draft::Draft;
 use crate::kinds::{Aggregate, Kind};
@@ -98,8 +94,7 @@ pub struct Plan {
 }
 
 impl Model for Plan {
-    ghost use Rattle.plan.specs.Layouts.{Layout};
-    ghost use Rattle.plan.specs.Profile.{IsPlan};
+    ghost use Rattle.plan.specs.{Layouts.Layout, Profile.IsPlan};
 
     ghost Value = { Layout };
 

@@ -2,9 +2,7 @@
 ghost use Rattle.std.specs.Prelude.{◌≡◌};
 ghost use Rattle.std.specs.List.{list_all};
 ghost use Rattle.row.specs.Cells.{datum_of};
-ghost use Rattle.plan.specs.Layouts.{no_table};
-ghost use Rattle.plan.specs.Outputs.{holds, pass};
-ghost use Rattle.plan.specs.Profile.{value_is_small, values_are_small, side_is_small, columns_are_within, side_is_within, is_condition};
+ghost use Rattle.plan.specs.{Layouts.no_table, Outputs.holds, Outputs.pass, Profile.value_is_small, Profile.values_are_small, Profile.side_is_small, Profile.columns_are_within, Profile.side_is_within, Profile.is_condition};
 
 use crate::kinds::{Op, is_plain};
 use crate::table::Table;

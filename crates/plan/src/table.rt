@@ -3,10 +3,7 @@ ghost use Rattle.std.specs.Prelude.{◌≡◌, ◌<◌, ◌&&◌, length, string
 ghost use Rattle.std.specs.Bool.{OnTrue};
 ghost use Rattle.std.specs.List.{list_all};
 ghost use Rattle.row.specs.Cells.{datum_of};
-ghost use Rattle.plan.specs.Kinds.{is_cell, is_row};
-ghost use Rattle.plan.specs.Layouts.{ColumnLayout, TableLayout, column_at, kind_at};
-ghost use Rattle.plan.specs.Recipes.{table};
-ghost use Rattle.plan.specs.Profile.{is_from, is_name, table_is_small, columns_are_apart};
+ghost use Rattle.plan.specs.{Kinds.is_cell, Kinds.is_row, Layouts.ColumnLayout, Layouts.TableLayout, Layouts.column_at, Layouts.kind_at, Recipes.table, Profile.is_from, Profile.is_name, Profile.table_is_small, Profile.columns_are_apart};
 
 use crate::kinds::Kind;
 use crate::names::{Named, are_apart, is_name};

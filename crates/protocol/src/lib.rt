@@ -3,8 +3,7 @@
 //! holds of the definitions.
 #![tactic(auto)]
 
-ghost use Rattle.protocol.specs.Laws.{EveryTurn, EveryBasePacket, EveryEviction, StageCap, ViewCap, AreCounted};
-ghost use Rattle.protocol.specs.Theorem.{EverySchedule};
+ghost use Rattle.protocol.specs.{Laws.EveryTurn, Laws.EveryBasePacket, Laws.EveryEviction, Laws.StageCap, Laws.ViewCap, Laws.AreCounted, Theorem.EverySchedule};
 
 /// For every plan and every schedule the replies tell of a legal history.
 pub fn every_schedule()

@@ -1,11 +1,8 @@
 //! Fields of a document's parts, by their kinds.
 ghost use Rattle.std.specs.Prelude.{◌≡◌};
 ghost use Rattle.std.specs.Option.{option_copied};
-ghost use Rattle.toml.specs.Data.{get};
-ghost use Rattle.toml.specs.View.{view, array_view, table_view};
-ghost use Rattle.recipe.specs.Errors.{Gives};
-ghost use Rattle.recipe.specs.Words.{natural};
-ghost use Rattle.recipe.specs.Fields.{text_in, whole_in, list_in, table_in, needed, optional, paired};
+ghost use Rattle.toml.specs.{Data.get, View.view, View.array_view, View.table_view};
+ghost use Rattle.recipe.specs.{Errors.Gives, Words.natural, Fields.text_in, Fields.whole_in, Fields.list_in, Fields.table_in, Fields.needed, Fields.optional, Fields.paired};
 
 use crate::error::{Part, Place, PlanError};
 use toml::value::Array;

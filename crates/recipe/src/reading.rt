@@ -1,10 +1,7 @@
 //! Reading the parts of a document: the fields pass, which makes a draft.
 ghost use Rattle.std.specs.Prelude.{◌≡◌, codes};
-ghost use Rattle.toml.specs.View.{view, items_view};
-ghost use Rattle.toml.specs.Data.{get};
-ghost use Rattle.recipe.specs.Errors.{Gives};
-ghost use Rattle.recipe.specs.Words.{side_columns, right_side_columns};
-ghost use Rattle.recipe.specs.Fields.{each, column_of, column_at, columns_at, table_at, tables_at, view_at, views_at, needed, draft_at};
+ghost use Rattle.toml.specs.{View.view, View.items_view, Data.get};
+ghost use Rattle.recipe.specs.{Errors.Gives, Words.side_columns, Words.right_side_columns, Fields.each, Fields.column_of, Fields.column_at, Fields.columns_at, Fields.table_at, Fields.tables_at, Fields.view_at, Fields.views_at, Fields.needed, Fields.draft_at};
 
 use crate::error::{Part, PlanError, Spot};
 use crate::fields::{list_in, table_in, text, text_in, whole};

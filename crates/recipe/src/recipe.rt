@@ -1,11 +1,9 @@
 //! From a text to a plan.
 ghost use Rattle.std.specs.Prelude.{◌≡◌, IfOk, IsErrOf, Err, None};
 ghost use Rattle.std.specs.Str.{IsUtf8};
-ghost use Rattle.toml.specs.Parse.{parse_document};
-ghost use Rattle.toml.specs.View.{view};
+ghost use Rattle.toml.specs.{Parse.parse_document, View.view};
 ghost use Rattle.plan.specs.Profile.{IsPlan};
-ghost use Rattle.recipe.specs.Errors.{Gives};
-ghost use Rattle.recipe.specs.Plans.{judged, plan_at, plan_of};
+ghost use Rattle.recipe.specs.{Errors.Gives, Plans.judged, Plans.plan_at, Plans.plan_of};
 
 use crate::error::PlanError;
 use crate::reading::draft_at;

@@ -1,11 +1,8 @@
 //! Reading the stage of a document, and its conditions.
 ghost use Rattle.std.specs.Prelude.{◌≡◌, [], None, codes, option_map};
 ghost use Rattle.std.specs.Option.{option_copied};
-ghost use Rattle.recipe.specs.Errors.{Gives};
-ghost use Rattle.recipe.specs.Words.{columns_of};
-ghost use Rattle.toml.specs.Data.{get};
-ghost use Rattle.toml.specs.View.{view, items_view};
-ghost use Rattle.recipe.specs.Fields.{each, needed, optional, op_at, value_at, condition_at, conditions_at, word_at, aggregate_of, right_conditions, right_columns, told_columns, side_of, right_side, stage_at};
+ghost use Rattle.recipe.specs.{Errors.Gives, Words.columns_of, Fields.each, Fields.needed, Fields.optional, Fields.op_at, Fields.value_at, Fields.condition_at, Fields.conditions_at, Fields.word_at, Fields.aggregate_of, Fields.right_conditions, Fields.right_columns, Fields.told_columns, Fields.side_of, Fields.right_side, Fields.stage_at};
+ghost use Rattle.toml.specs.{Data.get, View.view, View.items_view};
 ghost use Rattle.row.specs.Cells.{datum_of};
 
 use crate::error::{Part, PlanError, Spot};

@@ -3,8 +3,7 @@ ghost use Rattle.std.specs.Prelude.{◌≡◌, ℕ, map, OnOk, IsErrOf};
 ghost use Rattle.std.specs.Io.KnownBytes.{Appends};
 ghost use Rattle.schedule.specs.Codes.{event_of, reply_of};
 ghost use Rattle.script.specs.Scripts.{lines_of, IsFirstFault};
-ghost use Rattle.schedule_lines.specs.Asks.{Asks};
-ghost use Rattle.schedule_lines.specs.Replies.{printed_reply};
+ghost use Rattle.schedule_lines.specs.{Asks.Asks, Replies.printed_reply};
 ghost use Rattle.replays.specs.Runs.{IsRun, printed_run};
 
 use plan::plan::Plan;

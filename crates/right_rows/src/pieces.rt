@@ -1,14 +1,10 @@
 //! Records of keys that wait.
 ghost use Rattle.std.specs.Prelude.{◌≡◌, ℕ, Option, ◌&&◌, ◌++◌, ◌∷◌, [], true, IfOk, OnOk, if◌then◌else◌};
 ghost use Rattle.std.specs.Map.{lookup};
-ghost use Rattle.row.specs.Cells.{datum_of, has};
-ghost use Rattle.row.specs.Changes.{IsCovered};
-ghost use Rattle.row.specs.Groups.{equal};
-ghost use Rattle.row.specs.declared.value.Value.{Value as Key};
+ghost use Rattle.row.specs.{Cells.datum_of, Cells.has, Changes.IsCovered, Groups.equal, declared.value.Value.Value as Key};
 ghost use Rattle.plan.specs.declared.kinds.Aggregate.{Aggregate as Read};
 ghost use Rattle.partial.specs.States.{ChangeFits, is_waiting, state_of};
-ghost use Rattle.packet.specs.Groups.{changed_by, names_of, records_at};
-ghost use Rattle.packet.specs.Keys.{is_among, stands_of};
+ghost use Rattle.packet.specs.{Groups.changed_by, Groups.names_of, Groups.records_at, Keys.is_among, Keys.stands_of};
 ghost use Rattle.right_rows.specs.Rights.{AreKeyed, AreRecordsOf, is_key, records_of};
 
 use packet::groups::Groups;

@@ -1,11 +1,8 @@
 //! What comes to domains and sessions in a running store.
 ghost use Rattle.std.specs.Prelude.{◌≡◌, ◌<◌, true};
 ghost use Rattle.row.specs.Cells.{shard};
-ghost use Rattle.model.specs.Entries.{change_of};
-ghost use Rattle.model.specs.Logs.{fits, key_of};
-ghost use Rattle.model.specs.Places.{layout_of, shard_of};
-ghost use Rattle.base_domain.specs.Codes.{message_of};
-ghost use Rattle.base_domain.specs.Received.{IsFor, last_number};
+ghost use Rattle.model.specs.{Entries.change_of, Logs.fits, Logs.key_of, Places.layout_of, Places.shard_of};
+ghost use Rattle.base_domain.specs.{Codes.message_of, Received.IsFor, Received.last_number};
 ghost use Rattle.packet.specs.Codes.{mark_of};
 ghost use Rattle.protocol.specs.Bases.{write as write_to, request as request_to, marker as marker_to};
 ghost use Rattle.routes.specs.Mails.{empty_log, HasFront};
@@ -31,8 +28,7 @@ pub struct BaseMail<J: Naming> {
 }
 
 impl<J: Naming> Model for BaseMail<J> {
-    ghost use Rattle.base_domain.specs.Codes.{message_of};
-    ghost use Rattle.base_domain.specs.Received.{IsFor};
+    ghost use Rattle.base_domain.specs.{Codes.message_of, Received.IsFor};
     ghost use Rattle.routes.specs.Mails.{BaseMailView, empty_log};
 
     ghost Value = { BaseMailView };

@@ -2,9 +2,7 @@
 ghost use Rattle.std.specs.Prelude.{◌≡◌, ◌==◌, ◌<◌, ◌≤◌, List, [], length, true, false, ◌↔◌, IsTrue, IfOk, OnOk, OnErr};
 ghost use Rattle.std.specs.Ordering.{is_gt};
 ghost use Rattle.std.specs.List.Sorted.{IsPartitionPoint};
-ghost use Rattle.row.specs.Cells.{row_cmp};
-ghost use Rattle.row.specs.Bags.{times, inserted, removed, IsAscending};
-ghost use Rattle.row.specs.BagChanges.{plus_applied, minus_applied, taken_back, with_gains, with_losses, with_records};
+ghost use Rattle.row.specs.{Cells.row_cmp, Bags.times, Bags.inserted, Bags.removed, Bags.IsAscending, BagChanges.plus_applied, BagChanges.minus_applied, BagChanges.taken_back, BagChanges.with_gains, BagChanges.with_losses, BagChanges.with_records};
 
 use crate::record::{Record, Sign};
 use crate::row::Row;
@@ -19,8 +17,7 @@ pub struct Bag {
 
 impl Model for Bag {
     ghost use Rattle.std.specs.Prelude.{List};
-    ghost use Rattle.row.specs.Cells.{Datum, row_cmp};
-    ghost use Rattle.row.specs.Bags.{IsAscending};
+    ghost use Rattle.row.specs.{Cells.Datum, Cells.row_cmp, Bags.IsAscending};
 
     ghost Value = { List (List Datum) };
 

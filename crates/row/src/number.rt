@@ -1,8 +1,7 @@
 //! Sums of numbers in rows.
 ghost use Rattle.std.specs.Prelude.{◌≡◌, true};
 ghost use Rattle.std.specs.List.{list_all};
-ghost use Rattle.row.specs.Cells.{datum_of, cell_at};
-ghost use Rattle.row.specs.Numbers.{number_of, is_small_at, sum_of};
+ghost use Rattle.row.specs.{Cells.datum_of, Cells.cell_at, Numbers.number_of, Numbers.is_small_at, Numbers.sum_of};
 
 use crate::row::Row;
 use crate::value::Value;

@@ -1,7 +1,6 @@
 //! The reasons for which a call is refused, with the number and the name that users see.
 ghost use Rattle.std.specs.Prelude.{◌≡◌};
-ghost use Rattle.row.specs.Refusals.{number_of, name_of};
-ghost use Rattle.row.specs.declared.refused.Refused.TheVariants.{NoMemory};
+ghost use Rattle.row.specs.{Refusals.number_of, Refusals.name_of, declared.refused.Refused.TheVariants.NoMemory};
 
 use std::alloc::AllocError;
 use thiserror::Error;

@@ -2,9 +2,7 @@
 ghost use Rattle.std.specs.Prelude.{◌≡◌, ◌<◌, true, length, IfOk, IfErr, Some, None};
 ghost use Rattle.row.specs.Cells.{datum_of, shard};
 ghost use Rattle.plan.specs.Layouts.{table_at, table_named, view_named};
-ghost use Rattle.model.specs.Entries.{change_of};
-ghost use Rattle.model.specs.Logs.{fits};
-ghost use Rattle.model.specs.Refusals.{evict_refusal, misfit, read_refusal, view_refusal, write_refusal};
+ghost use Rattle.model.specs.{Entries.change_of, Logs.fits, Refusals.evict_refusal, Refusals.misfit, Refusals.read_refusal, Refusals.view_refusal, Refusals.write_refusal};
 
 use model::entry::Entry;
 use plan::plan::Plan;

@@ -3,10 +3,8 @@ ghost use Rattle.std.specs.Prelude.{◌≡◌, ◌<◌, suc, [], map, replicate,
 ghost use Rattle.std.specs.List.{list_all};
 ghost use Rattle.std.specs.Option.{is_some};
 ghost use Rattle.packet.specs.Readers.{readers};
-ghost use Rattle.protocol.specs.Worlds.{first_caller};
-ghost use Rattle.protocol.specs.WorldSteps.{open_fence};
-ghost use Rattle.schedule.specs.Codes.{reply_of};
-ghost use Rattle.schedule.specs.Sessions.{acknowledged, over, told};
+ghost use Rattle.protocol.specs.{Worlds.first_caller, WorldSteps.open_fence};
+ghost use Rattle.schedule.specs.{Codes.reply_of, Sessions.acknowledged, Sessions.over, Sessions.told};
 
 use crate::cuts::{are_covered, raise};
 use crate::event::Reply;

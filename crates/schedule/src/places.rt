@@ -3,14 +3,10 @@ ghost use Rattle.std.specs.Prelude.{◌≡◌, ◌<◌, true, false, map, length
 ghost use Rattle.std.specs.Option.{option_map};
 ghost use Rattle.row.specs.Cells.{datum_of, shard};
 ghost use Rattle.plan.specs.Layouts.{table_at};
-ghost use Rattle.model.specs.Entries.{change_of};
-ghost use Rattle.model.specs.Histories.{view_shard};
-ghost use Rattle.model.specs.Logs.{fits, key_of};
-ghost use Rattle.model.specs.Places.{base_count, shard_of, source_at, sources, table_of};
+ghost use Rattle.model.specs.{Entries.change_of, Histories.view_shard, Logs.fits, Logs.key_of, Places.base_count, Places.shard_of, Places.source_at, Places.sources, Places.table_of};
 ghost use Rattle.base.specs.Shards.{HasKey};
 ghost use Rattle.packet.specs.Readers.{readers};
-ghost use Rattle.protocol.specs.Edges.{is_domain, is_edge, is_there, place_or, reader_place, source_place, wire_at, wire_of, wires};
-ghost use Rattle.protocol.specs.WorldSteps.{base_for, reader_of};
+ghost use Rattle.protocol.specs.{Edges.is_domain, Edges.is_edge, Edges.is_there, Edges.place_or, Edges.reader_place, Edges.source_place, Edges.wire_at, Edges.wire_of, Edges.wires, WorldSteps.base_for, WorldSteps.reader_of};
 ghost use Rattle.schedule.specs.Codes.{reader_in, spot_of, wire_in};
 
 use crate::readers::{place_of, readers};

@@ -1,8 +1,7 @@
 //! The queues of edges.
 ghost use Rattle.std.specs.Prelude.{◌≡◌, ◌∷◌, ◌++◌, [], replicate, slice_index_or, slice_set, IfOk, OnOk, IfSome, IfNone};
 ghost use Rattle.packet.specs.Outboxes.{packets_on};
-ghost use Rattle.protocol.specs.Edges.{pushed, queue, with_queue};
-ghost use Rattle.protocol.specs.Worlds.{no_queues};
+ghost use Rattle.protocol.specs.{Edges.pushed, Edges.queue, Edges.with_queue, Worlds.no_queues};
 ghost use Rattle.schedule.specs.Taken.{IsTaken, IsTakenFrom};
 
 use packet::edges::Edges;

@@ -1,8 +1,7 @@
 //! Edges and domains by the places of their ends.
 ghost use Rattle.std.specs.Prelude.{◌≡◌, ◌++◌, map, IfOk, OnOk};
 ghost use Rattle.protocol.specs.Edges.{pairs, to_base_back, to_stage_back, to_stage_from, to_view_from};
-ghost use Rattle.schedule.specs.Codes.{wire_in};
-ghost use Rattle.schedule.specs.Ways.{wire_on, wires_on};
+ghost use Rattle.schedule.specs.{Codes.wire_in, Ways.wire_on, Ways.wires_on};
 
 use std::alloc::{AllocError, Global};
 

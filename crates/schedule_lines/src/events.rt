@@ -5,12 +5,9 @@ ghost use Rattle.model.specs.Entries.{change_of};
 ghost use Rattle.protocol.specs.Events as protocol;
 ghost use Rattle.protocol.specs.Events.{write};
 ghost use Rattle.schedule.specs.Codes.{event_of};
-ghost use Rattle.script.specs.Columns.{kind_of_key};
-ghost use Rattle.script.specs.Values.{IsRead};
+ghost use Rattle.script.specs.{Columns.kind_of_key, Values.IsRead};
 ghost use Rattle.schedule_lines.specs.Asks as ask;
-ghost use Rattle.schedule_lines.specs.Asks.{ask_of, called_by, write_of};
-ghost use Rattle.schedule_lines.specs.Events.{IsEvent, AreEvents};
-ghost use Rattle.schedule_lines.specs.Schedules.{numbered};
+ghost use Rattle.schedule_lines.specs.{Asks.ask_of, Asks.called_by, Asks.write_of, Events.IsEvent, Events.AreEvents, Schedules.numbered};
 
 use crate::event_line::{CallWords, EntryWords, EventLine};
 use crate::reader::Line;

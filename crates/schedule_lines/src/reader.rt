@@ -1,8 +1,7 @@
 //! The lines of a schedule.
 ghost use Rattle.std.specs.Prelude.{◌≡◌, ℕ, List, map, IfOk, IsErrOf};
 ghost use Rattle.script.specs.Scripts.{lines_of, Numbered, IsScript, IsFirstFault};
-ghost use Rattle.schedule_lines.specs.Asks.{Ask, Asks};
-ghost use Rattle.schedule_lines.specs.Schedules.{numbered};
+ghost use Rattle.schedule_lines.specs.{Asks.Ask, Asks.Asks, Schedules.numbered};
 
 use crate::event_line::EventLine;
 use script::reader::read_lines;

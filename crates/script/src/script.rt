@@ -1,8 +1,7 @@
 //! The calls of a script.
 ghost use Rattle.std.specs.Prelude.{◌≡◌, ℕ, ◌<◌, ◌≤◌, ◌≢◌, ◌↔◌, IsTrue, List, ◌∷◌, ◌++◌, [], ◌⊎◌, true, length, map, slice_index, IfOk, IsErrOf};
 ghost use Rattle.std.specs.List.{list_all};
-ghost use Rattle.script.specs.Commands.{Asks, action_of};
-ghost use Rattle.script.specs.Scripts.{lines_of, ended, is_whole, numbered, AreOnlyCalls, HasFault, IsComment, refusal_of};
+ghost use Rattle.script.specs.{Commands.Asks, Commands.action_of, Scripts.lines_of, Scripts.ended, Scripts.is_whole, Scripts.numbered, Scripts.AreOnlyCalls, Scripts.HasFault, Scripts.IsComment, Scripts.refusal_of};
 
 use crate::command::Command;
 use crate::reader::read_lines;

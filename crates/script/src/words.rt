@@ -1,8 +1,6 @@
 //! The words of one line.
 ghost use Rattle.std.specs.Prelude.{◌≡◌, ℕ, List, [], ◌∷◌, map, string_bytes, IfOk, OnOk, IsErrOf, Some, None};
-ghost use Rattle.script.specs.Words.{IsLine};
-ghost use Rattle.script.specs.Machine.{class_of as byte_class, step_at, gives};
-ghost use Rattle.script.specs.declared.words.LineError.TheVariants.{NoMemory};
+ghost use Rattle.script.specs.{Words.IsLine, Machine.class_of as byte_class, Machine.step_at, Machine.gives, declared.words.LineError.TheVariants.NoMemory};
 
 use std::alloc::{AllocError, AllocFailed, Global};
 use std::mem;

@@ -2,12 +2,9 @@
 ghost use Rattle.std.specs.Prelude.{◌≡◌, ◌⊎◌, ◌<◌, IfOk, OnOk, IfErr, Some, map};
 ghost use Rattle.row.specs.Bags.{Each};
 ghost use Rattle.book.specs.Fronts.{FrontView};
-ghost use Rattle.sessions.specs.Sights.{IsCovering, IsCut};
-ghost use Rattle.model.specs.Legal.{IsLegal};
-ghost use Rattle.model.specs.Places.{sources};
-ghost use Rattle.model.specs.Tables.{places_of};
+ghost use Rattle.sessions.specs.{Sights.IsCovering, Sights.IsCut, Reads.HasLooked};
+ghost use Rattle.model.specs.{Legal.IsLegal, Places.sources, Tables.places_of};
 ghost use Rattle.base_domain.specs.Received.{last_number};
-ghost use Rattle.sessions.specs.Reads.{HasLooked};
 
 use crate::session::Session;
 use book::cut::Cuts;
@@ -21,8 +18,7 @@ use std::alloc::{AllocError, Global};
 use std::sync::Wait;
 
 impl<J: Naming> Session<J> {
-    ghost use Rattle.sessions.specs.Fences.{IsFenced, IsUnfenced, own_places};
-    ghost use Rattle.sessions.specs.Inserts.{stolen_refusal};
+    ghost use Rattle.sessions.specs.{Fences.IsFenced, Fences.IsUnfenced, Fences.own_places, Inserts.stolen_refusal};
 
     /// Raises the floors, as one step: afterwards each floor has, for each stage shard, every entry
     /// of a source that the session had seen, and each of its own accepted writes there. It looks

@@ -1,9 +1,7 @@
 //! Orders to evict a key of the stage or of a view, and counts of requests.
 ghost use Rattle.std.specs.Prelude.{◌≡◌, ◌⊎◌, IfErr, IfOk, IfSome, Some, Err};
 ghost use Rattle.row.specs.Cells.{datum_of};
-ghost use Rattle.sessions.specs.Counts.{IsCount, named_refusal};
-ghost use Rattle.sessions.specs.Orders.{order_refusal};
-ghost use Rattle.sessions.specs.Reads.{HasLooked, asked_refusal};
+ghost use Rattle.sessions.specs.{Counts.IsCount, Counts.named_refusal, Orders.order_refusal, Reads.HasLooked, Reads.asked_refusal};
 
 use crate::reads::key_place;
 use crate::session::Session;

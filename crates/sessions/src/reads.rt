@@ -45,9 +45,7 @@ pub enum Found {
 }
 
 impl<J: Naming> Session<J> {
-    ghost use Rattle.sessions.specs.Reads.{Answers, HasLooked, IsMissed, IsRead, IsUnanswered, IsUnread};
-    ghost use Rattle.sessions.specs.Reads.{Misses, OnHit, OnMiss, Reads, Tries, asked_refusal};
-    ghost use Rattle.sessions.specs.Sights.{Finds};
+    ghost use Rattle.sessions.specs.{Reads.Answers, Reads.HasLooked, Reads.IsMissed, Reads.IsRead, Reads.IsUnanswered, Reads.IsUnread, Reads.Misses, Reads.OnHit, Reads.OnMiss, Reads.Reads, Reads.Tries, Reads.asked_refusal, Sights.Finds};
 
     /// Looks a key of a view up in what is shown, and makes a hit an answer, as one step. It waits
     /// for nobody, and is answered after a stop too. A hit is what the look found: the query's rows

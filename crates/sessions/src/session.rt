@@ -5,12 +5,7 @@ ghost use Rattle.std.specs.Prelude.{Some, None, []};
 ghost use mathlib.Core.List.{IsPrefix};
 ghost use Rattle.row.specs.Cells.{datum_of, shard};
 ghost use Rattle.plan.specs.Layouts.{table_at, table_named};
-ghost use Rattle.model.specs.Entries.{change_of};
-ghost use Rattle.model.specs.Histories.{floor_at};
-ghost use Rattle.model.specs.Legal.{IsLegal};
-ghost use Rattle.model.specs.Logs.{deletes, fits, inserts, key_of, updates};
-ghost use Rattle.model.specs.Places.{base_count, layout_of, shard_of};
-ghost use Rattle.model.specs.Refusals.{write_refusal};
+ghost use Rattle.model.specs.{Entries.change_of, Histories.floor_at, Legal.IsLegal, Logs.deletes, Logs.fits, Logs.inserts, Logs.key_of, Logs.updates, Places.base_count, Places.layout_of, Places.shard_of, Refusals.write_refusal};
 ghost use Rattle.base.specs.Shards.{HasKey};
 ghost use Rattle.base_domain.specs.Received.{last_number};
 ghost use Rattle.packet.specs.Readers.{readers as readers_of};
@@ -77,9 +72,7 @@ impl<J: Naming> Model for Session<J> {
 }
 
 impl<J: Naming> Session<J> {
-    ghost use Rattle.sessions.specs.Callers.{Caller, reader_of};
-    ghost use Rattle.sessions.specs.Inserts.{Accepts, Declines, IsRefused, IsTaken, IsUntaken, Writes};
-    ghost use Rattle.sessions.specs.Inserts.{call_refusal, stolen_refusal};
+    ghost use Rattle.sessions.specs.{Callers.Caller, Callers.reader_of, Inserts.Accepts, Inserts.Declines, Inserts.IsRefused, Inserts.IsTaken, Inserts.IsUntaken, Inserts.Writes, Inserts.call_refusal, Inserts.stolen_refusal};
 
     /// The session of this word, which has answered nothing and made no call. It has a reader of
     /// each shard of each view, in order, and has accepted no write in any base shard.

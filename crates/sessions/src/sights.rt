@@ -1,16 +1,13 @@
 //! What a session looks at of each shard of each view.
 ghost use Rattle.std.specs.Prelude.{◌≡◌, ◌⊎◌, ◌<◌, ◌≤◌, ℕ, length, map, min, slice_get, slice_index_or};
 ghost use Rattle.std.specs.Prelude.{IfOk, IfErr, IsTrue, Some};
-ghost use Rattle.row.specs.Bags.{Each};
-ghost use Rattle.row.specs.Cells.{datum_of};
-ghost use Rattle.sessions.specs.Sights.{Finds, HasAll, IsCut, IsCutAt};
+ghost use Rattle.row.specs.{Bags.Each, Cells.datum_of};
+ghost use Rattle.sessions.specs.{Sights.Finds, Sights.HasAll, Sights.IsCut, Sights.IsCutAt, Callers.AreLater, Callers.reader_of, Reads.IsHidden};
 ghost use Rattle.model.specs.Histories.{len_at, view_shard};
 ghost use Rattle.book.specs.Fronts.{FrontView};
 ghost use Rattle.packet.specs.Readers.{readers as readers_of};
 ghost use Rattle.shown.specs.Looks.{OnHit, OnMiss};
 ghost use Rattle.schedule.specs.Codes.{reader_in};
-ghost use Rattle.sessions.specs.Callers.{AreLater, reader_of};
-ghost use Rattle.sessions.specs.Reads.{IsHidden};
 
 use book::cut::{Cut, Cuts};
 use book::front::Front;

@@ -3,9 +3,7 @@ ghost use Rattle.std.specs.Prelude.{◌≡◌, IfOk, IfErr, IfSome, None, Some};
 ghost use Rattle.left_right.specs.Sides.{view as sight_of};
 ghost use Rattle.book.specs.Sessions.{fronts};
 ghost use Rattle.row.specs.Cells.{datum_of};
-ghost use Rattle.shown.specs.Looks.{OnHit, OnMiss};
-ghost use Rattle.shown.specs.Snapshots.{Snapshot, IsLater, IsTrue, shown_at};
-ghost use Rattle.shown.specs.Sights.{HasLooked, IsOf, seen_or, nothing};
+ghost use Rattle.shown.specs.{Looks.OnHit, Looks.OnMiss, Snapshots.Snapshot, Snapshots.IsLater, Snapshots.IsTrue, Snapshots.shown_at, Sights.HasLooked, Sights.IsOf, Sights.seen_or, Sights.nothing};
 
 use crate::rule::{Looks, Published, Sight};
 use crate::shown::Shown;
@@ -30,8 +28,7 @@ pub struct ShownReader<J: Naming> {
 impl<J: Naming> Model for ShownReader<J> {
     ghost use Rattle.std.specs.Prelude.{◌≡◌};
     ghost use Rattle.left_right.specs.Sides.{view as sight_of};
-    ghost use Rattle.shown.specs.Snapshots.{Snapshot};
-    ghost use Rattle.shown.specs.Sights.{IsOf, seen_or, nothing};
+    ghost use Rattle.shown.specs.{Snapshots.Snapshot, Sights.IsOf, Sights.seen_or, Sights.nothing};
 
     ghost Value = { Snapshot };
 

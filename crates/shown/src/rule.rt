@@ -10,8 +10,7 @@ use std::marker::Model;
 pub struct Shot {}
 
 impl Model for Shot {
-    ghost use Rattle.shown.specs.Snapshots.{Snapshot};
-    ghost use Rattle.shown.specs.Sights.{nothing};
+    ghost use Rattle.shown.specs.{Snapshots.Snapshot, Sights.nothing};
 
     ghost Value = { Snapshot };
 

@@ -1,9 +1,7 @@
 //! The writer of a shown copy.
 ghost use Rattle.std.specs.Prelude.{◌≡◌, ◌<◌, ◌^◌, [], fold, IfOk, IfSome, OnOk, OnErr};
 ghost use Rattle.packet.specs.Lines.{AreOf};
-ghost use Rattle.shown.specs.Boards.{pending, shown, state, state_by};
-ghost use Rattle.shown.specs.Sights.{ahead};
-ghost use Rattle.shown.specs.Snapshots.{IsLater, IsTrue, after, applied, first_of, lengths_with, with_change};
+ghost use Rattle.shown.specs.{Boards.pending, Boards.shown, Boards.state, Boards.state_by, Sights.ahead, Snapshots.IsLater, Snapshots.IsTrue, Snapshots.after, Snapshots.applied, Snapshots.first_of, Snapshots.lengths_with, Snapshots.with_change};
 ghost use Rattle.view_domain.specs.Outboxes.{put_line};
 
 use crate::delta::{Delta, Moved};

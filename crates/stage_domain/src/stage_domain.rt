@@ -3,12 +3,9 @@ ghost use Rattle.std.specs.Prelude.{◌≡◌, ◌≢◌, ◌<◌, Err, [], IfOk
 ghost use Rattle.row.specs.Bags.{Each};
 ghost use Rattle.model.specs.Fronts.{LogView};
 ghost use Rattle.packet.specs.Lines.{AreOf};
-ghost use Rattle.protocol.specs.StageSteps.{step};
-ghost use Rattle.protocol.specs.Stages.{packet};
+ghost use Rattle.protocol.specs.{StageSteps.step, Stages.packet};
 ghost use Rattle.stage_domain.specs.Domains.{Fails, IsDone, IsNew, IsNext, Meets, shard_in, stage_of, stopped};
-ghost use Rattle.stage_steps.specs.Codes.{message_of};
-ghost use Rattle.stage_steps.specs.Outboxes.{AreEdges, IsSilent};
-ghost use Rattle.stage_steps.specs.Shards.{IsShard};
+ghost use Rattle.stage_steps.specs.{Codes.message_of, Outboxes.AreEdges, Outboxes.IsSilent, Shards.IsShard};
 
 use model::fronts::Fronts;
 use packet::base_packet::BasePacket;
@@ -148,7 +145,12 @@ impl<'p, F: Fronts> StageDomain<'p, F> {
             self.mode = Mode::Stopped;
             return Err(Refused::Gap);
         }
-        self.pass(alloc, message, out)
+        if self.shard.step(alloc, message, out).is_err() {
+            self.mode = Mode::Broken;
+            out.clear();
+            return Err(Refused::NoMemory);
+        }
+        Ok(())
     }
 
     /// Whether the message is not a packet that starts elsewhere than at the front that is held of
@@ -175,33 +177,5 @@ impl<'p, F: Fronts> StageDomain<'p, F> {
         held.meet(to);
         next.is_true();
         held.len() == next.from()
-    }
-
-    /// Takes a message that is next. `NoMemory` puts nothing out, and leaves it broken.
-    fn pass(
-        &mut self,
-        alloc: Global,
-        message: ToStage<F>,
-        out: &mut StageOutbox<F>,
-    ) -> Result<(), Refused>
-        requires clear { IsSilent out.old }
-        requires edges { AreEdges self.old.plan out.old }
-        requires meets { Meets F.are_one self.old (message_of message) }
-        requires next { IsNext self.old (message_of message) }
-        requires running { self.old.mode ≡ Mode.Running }
-        ensures done { OnOk result (IsDone (step (stage_of self.old) (message_of message))
-            out.new self.new) }
-        ensures refused { IfErr result (λ e. Fails self.old (message_of message) e self.new) }
-        ensures unsent { OnErr result (IsSilent out.new) }
-        ensures edges { AreEdges self.old.plan out.new }
-        ensures plan { self.new.plan ≡ self.old.plan }
-        ensures shard { self.new.shard ≡ self.old.shard }
-    {
-        if self.shard.step(alloc, message, out).is_err() {
-            self.mode = Mode::Broken;
-            out.clear();
-            return Err(Refused::NoMemory);
-        }
-        Ok(())
     }
 }

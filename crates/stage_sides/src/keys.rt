@@ -1,17 +1,12 @@
 //! Calls on the right side within a stage.
 ghost use Rattle.std.specs.Prelude.{◌≡◌, [], IfNone, IfOk, IfSome, List, OnOk, Some, filter, length, not, slice_get, true};
 ghost use Rattle.std.specs.Option.{option_map};
-ghost use Rattle.row.specs.Bags.{Each, IsAscending, sorted};
-ghost use Rattle.row.specs.Cells.{Cells, cell_at, datum_of, has, row_cmp};
-ghost use Rattle.row.specs.declared.record.Record.{Record as RecordView};
-ghost use Rattle.row.specs.declared.value.Value.{Value as Key};
+ghost use Rattle.row.specs.{Bags.Each, Bags.IsAscending, Bags.sorted, Cells.Cells, Cells.cell_at, Cells.datum_of, Cells.has, Cells.row_cmp, declared.record.Record.Record as RecordView, declared.value.Value.Value as Key};
 ghost use Rattle.ops.specs.SideRows.{fits_64_bits};
-ghost use Rattle.partial.specs.Sums.{sum_of_bags};
-ghost use Rattle.partial.specs.Truth.{IsTrueOf};
+ghost use Rattle.partial.specs.{Sums.sum_of_bags, Truth.IsTrueOf};
 ghost use Rattle.packet.specs.Keys.{begin_at, give_at, open_at};
 ghost use Rattle.right_rows.specs.Rights.{FitsPiece, keys_in, records_of, state_in};
-ghost use Rattle.stage_sides.specs.Held.{IsStageOf, no_rights};
-ghost use Rattle.stage_sides.specs.Sides.{IsNamed, IsStill, KeepsTruth, TakesPieces, first_filled, is_closed, is_filled_at, is_open, rows_in};
+ghost use Rattle.stage_sides.specs.{Held.IsStageOf, Held.no_rights, Sides.IsNamed, Sides.IsStill, Sides.KeepsTruth, Sides.TakesPieces, Sides.first_filled, Sides.is_closed, Sides.is_filled_at, Sides.is_open, Sides.rows_in};
 
 use crate::sides::HeldSide;
 use ops::side::{KeyedRows, Side};

@@ -30,14 +30,14 @@ use Rattle.packet.specs.Truth.{IsFrontOf, base_piece, column_of, right_column, r
 use Rattle.protocol.specs.Stages.{Done, Stage}
 use Rattle.protocol.specs.StageSteps.{piece_given, piece_taken, quiet}
 use Rattle.right_rows.specs.Rights.{keys_in, state_in}
-use Rattle.stage_sides.specs.Held.{AreFound, Held}
+use Rattle.stage_sides.specs.Held.{Held}
 use Rattle.stage_sides.specs.Kept.{is_kept, kept_rows, rows_kept}
 use Rattle.stage_steps.specs.Outboxes.{AreEdges, OutboxView}
 use Rattle.stage_steps.specs.Shards.{HoldsRight, IsFrom, IsPut, IsShard, Shard, stage_of}
 use Rattle.stage_steps.proofs.Fronts.{all_of, drop_get, front_at, right_is, right_room, right_table, share_of}
 use Rattle.stage_steps.proofs.LeftRows.{each_of}
 use Rattle.stage_steps.proofs.Puts.{after, put_quiet}
-use Rattle.stage_steps.proofs.Wholes.{some_after}
+use Rattle.stage_steps.proofs.Wholes.{some_after, with_right}
 use Rattle.stage_steps.proofs.LeftRows.{each_sorted}
 
 -- ---- the rows of a piece
@@ -136,19 +136,7 @@ module _ (x : Shard) (facts : Facts x.plan) (whole : IsShard x) (j : ℕ) (k : B
       fed_whole truth =
           let held : HoldsRight x.plan x.shard (Some side) fronts x.rows.right = subst (λ o. HoldsRight x.plan x.shard o fronts x.rows.right) room.1 whole.rows.right in
           let after_it : HoldsRight x.plan x.shard (Some side) fronts new.right = (some_after x.rows.right new.right (give_at i d) keys held.0, sources_same ∙ held.1, λ v. truth v (right_shares x.plan x.shard side (datum_of v) fronts) (shares_at (datum_of v)) (held.2 v)) in
-          record {
-            shard = whole.shard;
-            of = whole.of;
-            fronts = whole.fronts;
-            senders = whole.senders;
-            rows = record {
-              plan = ap (λ (h : Held). h.plan) others ∙ whole.rows.plan;
-              found = subst AreFound (sym others) whole.rows.found;
-              lefts = rw others whole.rows.lefts;
-              right = subst (λ o. HoldsRight x.plan x.shard o fronts new.right) (sym room.1) after_it;
-            };
-            pending = whole.pending;
-          }
+          with_right x new whole others (subst (λ o. HoldsRight x.plan x.shard o fronts new.right) (sym room.1) after_it)
 
       given_is : (o : Option Keys) → option_map (give_at i piece.key) o ≡ piece_given i piece.key o
       given_is None = refl

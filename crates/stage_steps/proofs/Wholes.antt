@@ -60,9 +60,9 @@ line_length p (b ∷ bs) (f ∷ line) h = ap suc (line_length p bs line h.1)
 pub count_is : (x : Shard) → IsShard x → length (drop (side_count x.plan x.plan.left) (entries_of x.line)) ≡ right_count x.plan
 count_is x whole = omega (arith, length-drop (side_count x.plan x.plan.left) (entries_of x.line), line_length x.plan (sources x.plan) (entries_of x.line) whole.fronts)
 
-pub still_whole : (x : Shard) (rows : Held) → IsShard x → rows ≡ record x.rows { right = rows.right } → rows.right.sources ≡ x.rows.right.sources → (f : Keys → Keys) → keys_in rows.right ≡ option_map f (keys_in x.rows.right)
-    → ((k : Value) (parts : List (List Cells)) → length parts ≡ x.rows.right.sources → IsTrueOf sum_of_bags parts (state_in x.rows.right (datum_of k)) → IsTrueOf sum_of_bags parts (state_in rows.right (datum_of k))) → IsShard (record x { rows = rows })
-still_whole x rows whole is same f keys keeps = record {
+-- with another right side that is true
+pub with_right : (x : Shard) (rows : Held) → IsShard x → rows ≡ record x.rows { right = rows.right } → HoldsRight x.plan x.shard x.plan.right (drop (side_count x.plan x.plan.left) (entries_of x.line)) rows.right → IsShard (record x { rows = rows })
+with_right x rows whole is right = record {
   shard = whole.shard;
   of = whole.of;
   fronts = whole.fronts;
@@ -71,7 +71,12 @@ still_whole x rows whole is same f keys keeps = record {
     plan = ap (λ (h : Held). h.plan) is ∙ whole.rows.plan;
     found = subst AreFound (sym is) whole.rows.found;
     lefts = rw is whole.rows.lefts;
-    right = keep_right x.rows.right rows.right f keys x.plan x.shard x.plan.right (drop (side_count x.plan x.plan.left) (entries_of x.line)) (count_is x whole) whole.rows.right same keeps;
+    right = right;
   };
   pending = whole.pending;
 }
+
+pub still_whole : (x : Shard) (rows : Held) → IsShard x → rows ≡ record x.rows { right = rows.right } → rows.right.sources ≡ x.rows.right.sources → (f : Keys → Keys) → keys_in rows.right ≡ option_map f (keys_in x.rows.right)
+    → ((k : Value) (parts : List (List Cells)) → length parts ≡ x.rows.right.sources → IsTrueOf sum_of_bags parts (state_in x.rows.right (datum_of k)) → IsTrueOf sum_of_bags parts (state_in rows.right (datum_of k))) → IsShard (record x { rows = rows })
+still_whole x rows whole is same f keys keeps =
+    with_right x rows whole is (keep_right x.rows.right rows.right f keys x.plan x.shard x.plan.right (drop (side_count x.plan x.plan.left) (entries_of x.line)) (count_is x whole) whole.rows.right same keeps)

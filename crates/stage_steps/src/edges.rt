@@ -1,7 +1,6 @@
 //! Where requests and their answers go.
 ghost use Rattle.std.specs.Prelude.{◌≡◌, ◌<◌, List, [], cond, length, map};
-ghost use Rattle.packet.specs.Messages.{StagePacketView, to_one};
-ghost use Rattle.packet.specs.Readers.{is_reader, readers, view_of};
+ghost use Rattle.packet.specs.{Messages.StagePacketView, Messages.to_one, Readers.is_reader, Readers.readers, Readers.view_of};
 ghost use Rattle.plan.specs.Layouts.{view_at};
 
 use packet::reader::Reader;

@@ -1,19 +1,11 @@
 //! The packet of an entry.
 ghost use Rattle.std.specs.Prelude.{◌≡◌, IfOk, List, None, OnOk, Some, map, slice_get, slice_set, true};
 ghost use Rattle.row.specs.declared.record.Record.{Record as RecordView};
-ghost use Rattle.packet.specs.Lines.{AreOf, entries_of};
-ghost use Rattle.packet.specs.Readers.{readers};
-ghost use Rattle.packet.specs.Truth.{IsLine};
-ghost use Rattle.protocol.specs.StageSteps.{entry_taken, next};
-ghost use Rattle.protocol.specs.Stages.{Done};
+ghost use Rattle.packet.specs.{Lines.AreOf, Lines.entries_of, Readers.readers, Truth.IsLine};
+ghost use Rattle.protocol.specs.{StageSteps.entry_taken, StageSteps.next, Stages.Done};
 ghost use Rattle.right_rows.specs.Rights.{keys_in};
-ghost use Rattle.stage_sides.specs.Held.{AreFound, CanTakeAll, untold_lefts};
-ghost use Rattle.stage_sides.specs.Kept.{kept_at};
-ghost use Rattle.stage_steps.specs.Outboxes.{AreEdges};
-ghost use Rattle.stage_steps.specs.Rows.{IsChanged, IsSeen};
-ghost use Rattle.stage_steps.specs.Shards.{HoldsRows, IsFrom, IsPut, IsSame, IsShard, entry_names};
-ghost use Rattle.stage_steps.specs.Sides.{names_of, passing_at, passing_of, right_source, source_side};
-ghost use Rattle.stage_steps.specs.Told.{names_in, told_if};
+ghost use Rattle.stage_sides.specs.{Held.AreFound, Held.CanTakeAll, Held.untold_lefts, Kept.kept_at};
+ghost use Rattle.stage_steps.specs.{Outboxes.AreEdges, Rows.IsChanged, Rows.IsSeen, Shards.HoldsRows, Shards.IsFrom, Shards.IsPut, Shards.IsSame, Shards.IsShard, Shards.entry_names, Sides.names_of, Sides.passing_at, Sides.passing_of, Sides.right_source, Sides.source_side, Told.names_in, Told.told_if};
 
 use crate::outbox::StageOutbox;
 use crate::packets::{News, packets};

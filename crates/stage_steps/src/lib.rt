@@ -5,12 +5,8 @@
 mod edges;
 mod entries;
 mod keyed;
-mod looks;
-mod markers;
 pub mod message;
-mod orders;
 pub mod outbox;
 mod packets;
-mod pieces;
 pub mod shard;
 mod steps;

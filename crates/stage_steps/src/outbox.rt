@@ -2,8 +2,7 @@
 ghost use Rattle.std.specs.Prelude.{◌≡◌, ◌<◌, ◌++◌, [], length, map, slice_index_or, slice_set, IfOk, OnOk};
 ghost use Rattle.packet.specs.Outboxes.{no_edge, packets_on, with_one};
 ghost use Rattle.protocol.specs.StageSteps.{append_each};
-ghost use Rattle.stage_steps.specs.Told.{perhaps};
-ghost use Rattle.stage_steps.specs.Outboxes.{IsSilent};
+ghost use Rattle.stage_steps.specs.{Told.perhaps, Outboxes.IsSilent};
 
 use model::fronts::Fronts;
 use packet::edges::Edges;

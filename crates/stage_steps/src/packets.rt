@@ -1,10 +1,7 @@
 //! The packets of a stage shard to view shards.
 ghost use Rattle.std.specs.Prelude.{◌≡◌, ◌<◌, ◌++◌, filter, map, length, IfOk, OnOk};
 ghost use Rattle.row.specs.Cells.{datum_of};
-ghost use Rattle.packet.specs.Codes.{mark_in};
-ghost use Rattle.packet.specs.Lines.{AreOf, entries_of};
-ghost use Rattle.packet.specs.Readers.{Reader as ReaderView, is_of, readers, readers_of};
-ghost use Rattle.packet.specs.Truth.{IsTrueStage};
+ghost use Rattle.packet.specs.{Codes.mark_in, Lines.AreOf, Lines.entries_of, Readers.Reader as ReaderView, Readers.is_of, Readers.readers, Readers.readers_of, Truth.IsTrueStage};
 ghost use Rattle.stage_steps.specs.Told.{evicts_at, is_told, names_in, told, told_if};
 
 use crate::keyed::keyed_for;

@@ -1,27 +1,17 @@
 //! A stage shard over its line of fronts.
-ghost use Rattle.std.specs.Prelude.{◌≡◌, ◌<◌, ◌∷◌, [], IfOk, None, OnOk, map};
+ghost use Rattle.std.specs.Prelude.{◌≡◌, ◌<◌, [], IfOk, None};
 ghost use Rattle.std.specs.Option.{option_map};
 ghost use Rattle.row.specs.Bags.{Each};
-ghost use Rattle.row.specs.Cells.{datum_of};
 ghost use Rattle.model.specs.Fronts.{LogView};
-ghost use Rattle.packet.specs.Keys.{no_keys};
-ghost use Rattle.packet.specs.Lines.{AreOf, entries_of};
-ghost use Rattle.packet.specs.Outboxes.{packets_on};
-ghost use Rattle.packet.specs.Readers.{readers};
-ghost use Rattle.protocol.specs.StageSteps.{append_each, asks_for};
-ghost use Rattle.stage_steps.specs.Outboxes.{AreEdges};
-ghost use Rattle.stage_steps.specs.Shards.{IsShard, gone_to, stage_of};
+ghost use Rattle.packet.specs.{Keys.no_keys, Lines.AreOf, Lines.entries_of};
+ghost use Rattle.stage_steps.specs.Shards.{IsShard, stage_of};
 
 use crate::entries::right_source;
-use crate::outbox::StageOutbox;
-use crate::packets::{News, packets};
 use model::fronts::Fronts;
 use packet::line::Line;
 use packet::marks::Marks;
 use packet::request::Request;
-use plan::domain::Tag;
 use plan::plan::Plan;
-use row::value::Value;
 use stage_sides::rows::StageRows;
 use std::alloc::{AllocError, Global};
 use std::marker::Model;
@@ -102,62 +92,4 @@ impl<'p, F: Fronts> StageShard<'p, F> {
     {
         &self.line
     }
-
-    /// Tells each view shard of its keys that have left rows of a stage key, of which no change can
-    /// be told any more: it evicts them, in order and each once; one that has none is told nothing.
-    /// Errors: memory only; then some are told. Cost: for each view a copy of the key of each left
-    /// row of the stage key and a sort of them, and for each view shard that is told a copy of the
-    /// line.
-    pub(crate) fn tell_gone(
-        &self,
-        alloc: Global,
-        key: &Value,
-        out: &mut StageOutbox<F>,
-    ) -> Result<(), AllocError>
-        requires whole { IsShard self.now }
-        requires edges { AreEdges self.now.plan out.old }
-        ensures edges { AreEdges self.now.plan out.new }
-        ensures requests { out.new.requests ≡ out.old.requests }
-        ensures told { OnOk result (packets_on out.new.packets ≡ append_each
-            (packets_on out.old.packets) (map (gone_to self.now (datum_of key.now))
-            (readers self.now.plan))) }
-    {
-        let mut names = Vec::new(alloc);
-        for view in 0..self.plan.views() {
-            names.push(self.rows.ahead(alloc, view, key)?)?;
-        }
-        let news = News {
-            plan: self.plan,
-            stage: self.shard,
-            from: &self.line,
-            to: &self.line,
-            records: &[],
-            names: &names,
-            marker: None,
-        };
-        out.tell(packets(alloc, &news, false)?)
-    }
-}
-
-/// Asks each right source for a stage key, behind what it is asked for already. Errors: memory
-/// only; then some are asked. Cost: a copy of the key for each.
-pub(crate) fn ask_sources<F: Fronts>(
-    alloc: Global,
-    plan: &Plan,
-    key: &Value,
-    out: &mut StageOutbox<F>,
-) -> Result<(), AllocError>
-    requires edges { AreEdges plan.now out.old }
-    ensures edges { AreEdges plan.now out.new }
-    ensures packets { out.new.packets ≡ out.old.packets }
-    ensures asked { OnOk result (packets_on out.new.requests ≡ append_each
-        (packets_on out.old.requests) (asks_for plan.now (datum_of key.now ∷ []))) }
-{
-    plan.keeps_profile();
-    let lefts = plan.table(plan.left().table()).shards();
-    for source in lefts..out.sources() {
-        let request = Request::new(Tag(0), key.try_clone(alloc)?);
-        out.ask(source, request)?;
-    }
-    Ok(())
 }

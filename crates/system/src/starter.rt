@@ -4,8 +4,7 @@ ghost use Rattle.row.specs.Bags.{Each};
 ghost use Rattle.book.specs.Fronts.{FrontView};
 ghost use Rattle.packet.specs.Readers.{readers};
 ghost use Rattle.sessions.specs.Callers.{reader_of};
-ghost use Rattle.shown.specs.Boards.{pending, shown};
-ghost use Rattle.shown.specs.Snapshots.{first_of};
+ghost use Rattle.shown.specs.{Boards.pending, Boards.shown, Snapshots.first_of};
 
 use crate::domains::Domains;
 use book::law::Naming;

@@ -2,9 +2,7 @@
 ghost use Rattle.std.specs.Prelude.{◌≡◌, ◌∷◌, [], true, IfOk, codes};
 ghost use Rattle.row.specs.Cells.{int, shard, text};
 ghost use Rattle.plan.specs.Recipes.{notes_plan};
-ghost use Rattle.model.specs.Entries.{change_of};
-ghost use Rattle.model.specs.Logs.{fits, key_of};
-ghost use Rattle.model.specs.Places.{layout_of};
+ghost use Rattle.model.specs.{Entries.change_of, Logs.fits, Logs.key_of, Places.layout_of};
 ghost use Rattle.base.specs.Shards.{HasKey};
 
 use model::entry::Entry;

@@ -1,19 +1,10 @@
 //! Requests of a view shard, and what a packet makes it put out.
 ghost use Rattle.std.specs.Prelude.{◌≡◌, ◌<◌, [], List, Some, None, map, length, replicate, slice_get, slice_set, false, is_some, IfOk, OnOk, IfSome, IfNone, Option};
-ghost use Rattle.row.specs.Groups.{equal};
-ghost use Rattle.row.specs.declared.value.Value.{Value as Key};
-ghost use Rattle.partial.specs.States.{state_of, is_hole};
-ghost use Rattle.partial.specs.Sums.{sum_of_bags};
-ghost use Rattle.row.specs.Cells.{Cells, datum_of};
-ghost use Rattle.partial.specs.Truth.{IsTrueOf};
-ghost use Rattle.packet.specs.Codes.{mark_in, marks_in};
-ghost use Rattle.packet.specs.Keys.{is_among, stands_of, begin_at};
-ghost use Rattle.packet.specs.Marks.{complete, partly};
-ghost use Rattle.packet.specs.Truth.{changes_at, key_of_piece};
+ghost use Rattle.row.specs.{Groups.equal, declared.value.Value.Value as Key, Cells.Cells, Cells.datum_of};
+ghost use Rattle.partial.specs.{States.state_of, States.is_hole, Sums.sum_of_bags, Truth.IsTrueOf};
+ghost use Rattle.packet.specs.{Codes.mark_in, Codes.marks_in, Keys.is_among, Keys.stands_of, Keys.begin_at, Marks.complete, Marks.partly, Truth.changes_at, Truth.key_of_piece};
 ghost use Rattle.protocol.specs.ViewSteps.{again, capped, counted, drop_all, give_piece, marks_with};
-ghost use Rattle.view_domain.specs.Shown.{LeadsTo, rows_at};
-ghost use Rattle.view_domain.specs.Outboxes.{new_line};
-ghost use Rattle.view_domain.specs.Taken.{IsStepOf, IsPieceFor, MayTake, asks_by};
+ghost use Rattle.view_domain.specs.{Shown.LeadsTo, Shown.rows_at, Outboxes.new_line, Taken.IsStepOf, Taken.IsPieceFor, Taken.MayTake, Taken.asks_by};
 
 use crate::shown::KeyChange;
 use crate::takes::take_in;

@@ -1,19 +1,11 @@
 //! What a view shard does with keys.
 ghost use Rattle.std.specs.Prelude.{if◌then◌else◌, is_some, true, false, ◌≡◌, ◌++◌, ◌∷◌, [], List, Option, Some, map, slice_get, OnOk};
 ghost use Rattle.std.specs.Map.{lookup};
-ghost use Rattle.row.specs.Cells.{Cells, datum_of};
-ghost use Rattle.row.specs.Changes.{IsCovered};
-ghost use Rattle.row.specs.Groups.{equal};
-ghost use Rattle.row.specs.declared.value.Value.{Value as Key};
-ghost use Rattle.row.specs.BagChanges.{with_records};
-ghost use Rattle.partial.specs.States.{Kept, after_change, OthersStay, state_of, ChangeFits};
-ghost use Rattle.partial.specs.Sums.{sum_of_bags};
-ghost use Rattle.partial.specs.Truth.{IsTrueOf};
-ghost use Rattle.packet.specs.Keys.{Ascends, is_among, stands_of, open_at, drop_at, give_at};
+ghost use Rattle.row.specs.{Cells.Cells, Cells.datum_of, Changes.IsCovered, Groups.equal, declared.value.Value.Value as Key, BagChanges.with_records};
+ghost use Rattle.partial.specs.{States.Kept, States.after_change, States.OthersStay, States.state_of, States.ChangeFits, Sums.sum_of_bags, Truth.IsTrueOf};
+ghost use Rattle.packet.specs.{Keys.Ascends, Keys.is_among, Keys.stands_of, Keys.open_at, Keys.drop_at, Keys.give_at, Groups.names_of, Groups.records_at, Groups.changed_by};
 ghost use Rattle.protocol.specs.ViewSteps.{drop_all, again, capped, oldest_open};
-ghost use Rattle.packet.specs.Groups.{names_of, records_at, changed_by};
-ghost use Rattle.view_domain.specs.Shown.{rows_at, LeadsTo, gone_by, asked_by};
-ghost use Rattle.view_domain.specs.Taken.{evicted_all};
+ghost use Rattle.view_domain.specs.{Shown.rows_at, Shown.LeadsTo, Shown.gone_by, Shown.asked_by, Taken.evicted_all};
 
 use crate::shown::KeyChange;
 use packet::groups::{Group, Groups};

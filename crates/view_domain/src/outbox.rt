@@ -1,7 +1,6 @@
 //! What a view domain puts out.
 ghost use Rattle.std.specs.Prelude.{◌≡◌, ◌<◌, ◌∷◌, [], None, length, map, slice_index_or, slice_set, IfOk, OnOk, OnErr, IsOkUnless};
-ghost use Rattle.packet.specs.Messages.{none_of, to_one};
-ghost use Rattle.packet.specs.Outboxes.{no_edge, packets_on};
+ghost use Rattle.packet.specs.{Messages.none_of, Messages.to_one, Outboxes.no_edge, Outboxes.packets_on};
 ghost use Rattle.view_domain.specs.Outboxes.{IsClear};
 
 use crate::shown::ShownChange;

@@ -1,16 +1,10 @@
 //! What a view shard does with what a packet of a stage shard carries.
 ghost use Rattle.std.specs.Prelude.{◌≡◌, List, Some, map, slice_get, slice_set, false, IfOk, OnOk, Option};
-ghost use Rattle.row.specs.Groups.{equal};
-ghost use Rattle.row.specs.declared.value.Value.{Value as Key};
-ghost use Rattle.partial.specs.States.{state_of};
-ghost use Rattle.row.specs.Cells.{Cells, datum_of};
-ghost use Rattle.partial.specs.Sums.{sum_of_bags};
-ghost use Rattle.partial.specs.Truth.{IsTrueOf};
-ghost use Rattle.packet.specs.Keys.{is_among, stands_of};
-ghost use Rattle.packet.specs.Truth.{changes_at, key_of_piece};
+ghost use Rattle.row.specs.{Groups.equal, declared.value.Value.Value as Key, Cells.Cells, Cells.datum_of};
+ghost use Rattle.partial.specs.{States.state_of, Sums.sum_of_bags, Truth.IsTrueOf};
+ghost use Rattle.packet.specs.{Keys.is_among, Keys.stands_of, Truth.changes_at, Truth.key_of_piece};
 ghost use Rattle.protocol.specs.ViewSteps.{again, capped, drop_all, give_piece};
-ghost use Rattle.view_domain.specs.Shown.{LeadsTo, rows_at};
-ghost use Rattle.view_domain.specs.Taken.{IsStepOf, IsPieceFor, MayTake};
+ghost use Rattle.view_domain.specs.{Shown.LeadsTo, Shown.rows_at, Taken.IsStepOf, Taken.IsPieceFor, Taken.MayTake};
 
 use crate::keys::{cap_keys, change_keys, evict_keys, fill_key};
 use crate::shown::KeyChange;

@@ -1,7 +1,6 @@
 //! Whether a packet starts at the line that is held.
 ghost use Rattle.std.specs.Prelude.{◌≡◌, ◌≤◌, ◌↔◌, IsTrue, length, take};
-ghost use Rattle.packet.specs.Lines.{entries_of, fronts_to};
-ghost use Rattle.packet.specs.Truth.{Pointwise};
+ghost use Rattle.packet.specs.{Lines.entries_of, Lines.fronts_to, Truth.Pointwise};
 
 use model::fronts::Fronts;
 use packet::line::Line;

@@ -1,19 +1,11 @@
 //! One view shard over its cut.
 ghost use Rattle.std.specs.Prelude.{IfSome, ◌≡◌, ◌≢◌, ◌<◌, ◌+◌, [], Some, None, Err, length, IfOk, OnOk, IfErr};
 ghost use Rattle.std.specs.Option.{option_copied};
-ghost use Rattle.row.specs.Bags.{Each};
-ghost use Rattle.row.specs.Cells.{datum_of};
-ghost use Rattle.model.specs.Histories.{view_shard};
-ghost use Rattle.model.specs.Queries.{answer};
-ghost use Rattle.packet.specs.Lines.{AreOf};
-ghost use Rattle.packet.specs.Truth.{sent_of};
-ghost use Rattle.protocol.specs.Views.{packet as sent_by, want as wanted, order as ordered};
-ghost use Rattle.protocol.specs.ViewSteps.{step};
-ghost use Rattle.view_domain.specs.Codes.{message_of, IsFrom, Meets};
-ghost use Rattle.view_domain.specs.Domains.{lines_of, view_of, stopped};
-ghost use Rattle.view_domain.specs.Outboxes.{IsClear};
-ghost use Rattle.view_domain.specs.Received.{AreAnswers, Fails, IsDone, IsReady};
-ghost use Rattle.view_domain.specs.Shown.{rows_at};
+ghost use Rattle.row.specs.{Bags.Each, Cells.datum_of};
+ghost use Rattle.model.specs.{Histories.view_shard, Queries.answer};
+ghost use Rattle.packet.specs.{Lines.AreOf, Truth.sent_of};
+ghost use Rattle.protocol.specs.{Views.packet as sent_by, Views.want as wanted, Views.order as ordered, ViewSteps.step};
+ghost use Rattle.view_domain.specs.{Codes.message_of, Codes.IsFrom, Codes.Meets, Domains.lines_of, Domains.view_of, Domains.stopped, Outboxes.IsClear, Received.AreAnswers, Received.Fails, Received.IsDone, Received.IsReady, Shown.rows_at};
 
 use crate::asks::{Asks, begin_key, count, prepare};
 use crate::keys::open_key;
@@ -53,8 +45,7 @@ pub struct ViewDomain<'p, F: Fronts> {
 
 impl<'p, F: Fronts> Model for ViewDomain<'p, F> {
     ghost use Rattle.std.specs.Prelude.{◌≡◌, ◌≢◌};
-    ghost use Rattle.packet.specs.Readers.{tag_of};
-    ghost use Rattle.packet.specs.declared.mode.Mode.TheVariants.{Broken};
+    ghost use Rattle.packet.specs.{Readers.tag_of, declared.mode.Mode.TheVariants.Broken};
     ghost use Rattle.view_domain.specs.Domains.{Domain, HoldsTruth, domain_of};
 
     ghost Value = { Domain };

@@ -3,8 +3,7 @@ ghost use Rattle.std.specs.Prelude.{◌≡◌, ◌≢◌, None, Err, true, false
 ghost use Rattle.std.specs.Option.{ForSome};
 ghost use Rattle.workers.specs.BaseTurns.{IsTaken, IsUntaken, log_in, with_reply};
 ghost use Rattle.base_domain.specs.Received.{IsAnswered, Stays};
-ghost use Rattle.packet.specs.Messages.{none_of};
-ghost use Rattle.packet.specs.Outboxes.{IsClear, packets_on};
+ghost use Rattle.packet.specs.{Messages.none_of, Outboxes.IsClear, Outboxes.packets_on};
 ghost use Rattle.routes.specs.Mails.{HasFront};
 
 use base_domain::base_domain::BaseDomain;

@@ -4,8 +4,7 @@ ghost use Rattle.model.specs.Places.{base_count, sources as sources_of};
 ghost use Rattle.row.specs.Bags.{Each};
 ghost use Rattle.shown.specs.Snapshots.{first_of};
 ghost use Rattle.stage_domain.specs.Domains.{IsNew};
-ghost use Rattle.workers.specs.Fresh.{empty_line, fresh_base, fresh_view};
-ghost use Rattle.workers.specs.ViewTurns.{Shows};
+ghost use Rattle.workers.specs.{Fresh.empty_line, Fresh.fresh_base, Fresh.fresh_view, ViewTurns.Shows};
 
 use base_domain::base_domain::BaseDomain;
 use book::front::Front;

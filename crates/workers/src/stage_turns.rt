@@ -1,14 +1,10 @@
 //! The turns of a stage shard.
 ghost use Rattle.std.specs.Prelude.{◌≡◌, ◌≢◌, ◌<◌, length, IfErr, IsErrAnd, IsFalse, IsTrue, OnErr, OnOk};
 ghost use Rattle.model.specs.Places.{sources as sources_of};
-ghost use Rattle.packet.specs.Readers.{view_of};
-ghost use Rattle.packet.specs.declared.mode.Mode.TheVariants.{Running};
-ghost use Rattle.stage_steps.specs.Codes.{message_of};
+ghost use Rattle.packet.specs.{Readers.view_of, declared.mode.Mode.TheVariants.Running};
+ghost use Rattle.stage_steps.specs.{Codes.message_of, Outboxes.AreEdges, Outboxes.IsSilent, Shards.IsFrom};
 ghost use Rattle.stage_domain.specs.Domains.{Meets};
-ghost use Rattle.stage_steps.specs.Outboxes.{AreEdges, IsSilent};
-ghost use Rattle.stage_steps.specs.Shards.{IsFrom};
-ghost use Rattle.workers.specs.StageTurns.{IsFor, IsTaken, IsUntaken};
-ghost use Rattle.workers.specs.ViewTurns.{are_one};
+ghost use Rattle.workers.specs.{StageTurns.IsFor, StageTurns.IsTaken, StageTurns.IsUntaken, ViewTurns.are_one};
 
 use book::front::Front;
 use book::law::Naming;

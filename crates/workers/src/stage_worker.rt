@@ -1,10 +1,7 @@
 //! The thread of a stage shard.
 ghost use Rattle.std.specs.Prelude.{◌≡◌, ◌<◌, length};
-ghost use Rattle.packet.specs.Messages.{none_of};
-ghost use Rattle.packet.specs.Outboxes.{packets_on};
-ghost use Rattle.packet.specs.declared.mode.Mode.TheVariants.{Running};
-ghost use Rattle.stage_steps.specs.Codes.{message_of};
-ghost use Rattle.stage_steps.specs.Outboxes.{AreEdges, IsSilent};
+ghost use Rattle.packet.specs.{Messages.none_of, Outboxes.packets_on, declared.mode.Mode.TheVariants.Running};
+ghost use Rattle.stage_steps.specs.{Codes.message_of, Outboxes.AreEdges, Outboxes.IsSilent};
 ghost use Rattle.workers.specs.StageTurns.{Went};
 
 use crate::fresh::fresh_stage;

@@ -2,8 +2,7 @@
 ghost use Rattle.std.specs.Prelude.{◌≡◌, ◌≢◌, [], length, IfErr, IsErrAnd, IsFalse, IsTrue, OnOk, OnErr};
 ghost use Rattle.packet.specs.declared.mode.Mode.TheVariants.{Broken, Running};
 ghost use Rattle.shown.specs.Boards.{pending, shown};
-ghost use Rattle.view_domain.specs.Codes.{message_of, Meets};
-ghost use Rattle.view_domain.specs.Outboxes.{IsClear};
+ghost use Rattle.view_domain.specs.{Codes.message_of, Codes.Meets, Outboxes.IsClear};
 ghost use Rattle.workers.specs.ViewTurns.{are_one, IsFor, IsOwn, IsRefused, IsTaken, Shows};
 
 use book::front::Front;

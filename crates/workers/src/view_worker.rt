@@ -1,13 +1,9 @@
 //! The thread of a view shard.
 ghost use Rattle.std.specs.Prelude.{◌≡◌, ◌<◌, [], length, slice_get, IfSome};
-ghost use Rattle.packet.specs.Outboxes.{packets_on};
+ghost use Rattle.packet.specs.{Outboxes.packets_on, Messages.none_of, Readers.readers, declared.mode.Mode.TheVariants.Running};
 ghost use Rattle.workers.specs.ViewTurns.{Shows, Went};
-ghost use Rattle.packet.specs.Messages.{none_of};
-ghost use Rattle.packet.specs.Readers.{readers};
-ghost use Rattle.packet.specs.declared.mode.Mode.TheVariants.{Running};
 ghost use Rattle.schedule.specs.Codes.{reader_in};
-ghost use Rattle.shown.specs.Boards.{pending, shown};
-ghost use Rattle.shown.specs.Snapshots.{first_of};
+ghost use Rattle.shown.specs.{Boards.pending, Boards.shown, Snapshots.first_of};
 ghost use Rattle.view_domain.specs.Outboxes.{IsClear};
 
 use crate::fresh::fresh_view;

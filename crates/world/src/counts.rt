@@ -1,10 +1,8 @@
 //! Counts of a session: how many requests the shards of a view have sent.
 ghost use Rattle.std.specs.Prelude.{◌≡◌, map, slice_get};
-ghost use Rattle.protocol.specs.ViewSteps.{counted};
-ghost use Rattle.protocol.specs.WorldSteps.{asked_all, asked_of, count_by};
+ghost use Rattle.protocol.specs.{ViewSteps.counted, WorldSteps.asked_all, WorldSteps.asked_of, WorldSteps.count_by};
 ghost use Rattle.schedule.specs.Codes.{reply_of};
-ghost use Rattle.machine.specs.Held.{IsDone, IsWhole, view_node, world_of};
-ghost use Rattle.machine.specs.Machines.{held};
+ghost use Rattle.machine.specs.{Held.IsDone, Held.IsWhole, Held.view_node, Held.world_of, Machines.held};
 
 use machine::machine::Machine;
 use model::fronts::Fronts;

@@ -1,10 +1,8 @@
 //! One event of a schedule.
 ghost use Rattle.std.specs.Prelude.{IfOk};
-ghost use Rattle.protocol.specs.WorldSteps.{on_edge, step};
-ghost use Rattle.protocol.specs.Edges.{wire_of};
+ghost use Rattle.protocol.specs.{WorldSteps.on_edge, WorldSteps.step, Edges.wire_of};
 ghost use Rattle.schedule.specs.Codes.{event_of, reply_of};
-ghost use Rattle.machine.specs.Held.{AgreeingAreOne, IsDone, IsWhole, world_of};
-ghost use Rattle.machine.specs.Machines.{held};
+ghost use Rattle.machine.specs.{Held.AgreeingAreOne, Held.IsDone, Held.IsWhole, Held.world_of, Machines.held};
 
 use crate::counts::count;
 use crate::fences::fence;

@@ -3,11 +3,9 @@ ghost use Rattle.std.specs.Prelude.{◌≡◌, ◌<◌, ◌&&◌, Some, length, 
 ghost use Rattle.std.specs.List.{list_all};
 ghost use Rattle.model.specs.Places.{sources};
 ghost use Rattle.packet.specs.Codes.{mark_of};
-ghost use Rattle.protocol.specs.Bases.{marker as marker_to};
-ghost use Rattle.protocol.specs.WorldSteps.{all_run, base_takes, fence_by, is_up as is_node_up, lower_run, marked};
+ghost use Rattle.protocol.specs.{Bases.marker as marker_to, WorldSteps.all_run, WorldSteps.base_takes, WorldSteps.fence_by, WorldSteps.is_up as is_node_up, WorldSteps.lower_run, WorldSteps.marked};
 ghost use Rattle.schedule.specs.Codes.{reply_of};
-ghost use Rattle.machine.specs.Held.{IsAt, IsDone, IsPlaced, IsWhole, base_node, runs, stage_node, view_node, world_of};
-ghost use Rattle.machine.specs.Machines.{held};
+ghost use Rattle.machine.specs.{Held.IsAt, Held.IsDone, Held.IsPlaced, Held.IsWhole, Held.base_node, Held.runs, Held.stage_node, Held.view_node, Held.world_of, Machines.held};
 
 use base_domain::base_domain::BaseDomain;
 use base_domain::message::ToBase;

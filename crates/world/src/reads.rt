@@ -1,17 +1,13 @@
 //! Reads of a session: a filled key of a view shard.
 ghost use Rattle.std.specs.Prelude.{◌≡◌, ◌≢◌, ◌<◌, map, length, slice_get, is_some, Some, IfOk, IfErr, IfSome};
 ghost use Rattle.row.specs.Cells.{datum_of};
-ghost use Rattle.model.specs.Histories.{view_shard};
-ghost use Rattle.model.specs.Queries.{answer};
+ghost use Rattle.model.specs.{Histories.view_shard, Queries.answer};
 ghost use Rattle.partial.specs.States.{is_filled};
-ghost use Rattle.packet.specs.Readers.{readers};
-ghost use Rattle.packet.specs.declared.mode.Mode.TheVariants.{Broken};
-ghost use Rattle.protocol.specs.Worlds.{Caller};
-ghost use Rattle.protocol.specs.WorldSteps.{looked};
+ghost use Rattle.packet.specs.{Readers.readers, declared.mode.Mode.TheVariants.Broken};
+ghost use Rattle.protocol.specs.{Worlds.Caller, WorldSteps.looked};
 ghost use Rattle.schedule.specs.Codes.{reply_of};
 ghost use Rattle.view_domain.specs.Domains.{lines_of, view_of};
-ghost use Rattle.machine.specs.Held.{IsDone, IsPlaced, view_node, world_of};
-ghost use Rattle.machine.specs.Machines.{held};
+ghost use Rattle.machine.specs.{Held.IsDone, Held.IsPlaced, Held.view_node, Held.world_of, Machines.held};
 ghost use Rattle.world.specs.Sought.{IsDenied, IsSought};
 
 use machine::machine::Machine;

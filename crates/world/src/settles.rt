@@ -1,10 +1,8 @@
 //! Settles: rounds of deliveries, until all edges are empty.
 ghost use Rattle.std.specs.Prelude.{◌≡◌, ◌<◌, ◌++◌, [], true, false, cond, Some, length, slice_get, IfOk, OnOk};
-ghost use Rattle.protocol.specs.Edges.{wires};
-ghost use Rattle.protocol.specs.WorldSteps.{delivery, ended_by, is_idle, most_rounds, round, rounds};
+ghost use Rattle.protocol.specs.{Edges.wires, WorldSteps.delivery, WorldSteps.ended_by, WorldSteps.is_idle, WorldSteps.most_rounds, WorldSteps.round, WorldSteps.rounds};
 ghost use Rattle.schedule.specs.Codes.{reply_of, wire_in};
-ghost use Rattle.machine.specs.Held.{AgreeingAreOne, IsDone, IsWhole, world_of};
-ghost use Rattle.machine.specs.Machines.{held};
+ghost use Rattle.machine.specs.{Held.AgreeingAreOne, Held.IsDone, Held.IsWhole, Held.world_of, Machines.held};
 ghost use Rattle.world.specs.Rounds.{HasMoved, IsRound};
 
 use machine::deliveries::deliver;

@@ -5,8 +5,7 @@ ghost use Rattle.partial.specs.States.{is_filled};
 ghost use Rattle.protocol.specs.WorldSteps.{is_up, lower_run, wanted_at};
 ghost use Rattle.schedule.specs.Codes.{reply_of};
 ghost use Rattle.view_domain.specs.Domains.{view_of};
-ghost use Rattle.machine.specs.Held.{IsDone, IsPlaced, view_node, world_of};
-ghost use Rattle.machine.specs.Machines.{held};
+ghost use Rattle.machine.specs.{Held.IsDone, Held.IsPlaced, Held.view_node, Held.world_of, Machines.held};
 
 use crate::fences::{are_both, lower_runs};
 use machine::machine::Machine;

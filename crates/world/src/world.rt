@@ -1,13 +1,10 @@
 //! All domains of a plan in one value, over plain lists.
 ghost use Rattle.std.specs.Prelude.{◌≡◌, true, false, map, Err, IfOk, OnOk, OnErr, IsOkUnless};
 ghost use Rattle.model.specs.Places.{base_count};
-ghost use Rattle.protocol.specs.Theorem.{AreLegal};
-ghost use Rattle.protocol.specs.Worlds.{start};
-ghost use Rattle.protocol.specs.WorldSteps.{replies, step};
+ghost use Rattle.protocol.specs.{Theorem.AreLegal, Worlds.start, WorldSteps.replies, WorldSteps.step};
 ghost use Rattle.schedule.specs.Codes.{event_of, reply_of};
-ghost use Rattle.machine.specs.Held.{Are};
+ghost use Rattle.machine.specs.{Held.Are, Started.IsFirst};
 ghost use Rattle.world.specs.Listed.{authors_of, log_of, world_in};
-ghost use Rattle.machine.specs.Started.{IsFirst};
 
 use crate::events::step;
 use machine::machine::Machine;
@@ -30,9 +27,8 @@ pub struct World<'p> {
 
 impl<'p> Model for World<'p> {
     ghost use Rattle.std.specs.Prelude.{◌≡◌, false};
-    ghost use Rattle.machine.specs.Held.{IsWhole};
+    ghost use Rattle.machine.specs.{Held.IsWhole, Machines.held};
     ghost use Rattle.world.specs.Listed.{WorldView, authors_of, log_of};
-    ghost use Rattle.machine.specs.Machines.{held};
 
     ghost Value = { WorldView };
 

@@ -1,15 +1,11 @@
 //! Writes of a session: one entry to the base shard that has its key.
 ghost use Rattle.std.specs.Prelude.{◌≡◌, ◌<◌, true, length, map, slice_get, Some, IfOk};
 ghost use Rattle.row.specs.Cells.{shard};
-ghost use Rattle.model.specs.Entries.{change_of};
-ghost use Rattle.model.specs.Logs.{fits, key_of};
-ghost use Rattle.model.specs.Places.{base_count, layout_of, shard_of, table_of};
+ghost use Rattle.model.specs.{Entries.change_of, Logs.fits, Logs.key_of, Places.base_count, Places.layout_of, Places.shard_of, Places.table_of};
 ghost use Rattle.base_domain.specs.Received.{verdict_of as verdict_in};
-ghost use Rattle.protocol.specs.Events.{accepted};
-ghost use Rattle.protocol.specs.WorldSteps.{verdict_of, write_by, written};
+ghost use Rattle.protocol.specs.{Events.accepted, WorldSteps.verdict_of, WorldSteps.write_by, WorldSteps.written};
 ghost use Rattle.schedule.specs.Codes.{reply_of};
-ghost use Rattle.machine.specs.Held.{IsDone, IsPlaced, IsWhole, base_node, world_of};
-ghost use Rattle.machine.specs.Machines.{held};
+ghost use Rattle.machine.specs.{Held.IsDone, Held.IsPlaced, Held.IsWhole, Held.base_node, Held.world_of, Machines.held};
 ghost use Rattle.world.specs.Noted.{AreLogged, IsSmall, noted};
 
 use base_domain::message::{ToBase, Write};

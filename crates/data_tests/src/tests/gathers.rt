@@ -1,7 +1,6 @@
 //! What is kept of keys after calls, which follows from the rule of the gather.
 ghost use Rattle.std.specs.Prelude.{List, IfOk};
-ghost use Rattle.row.specs.Cells.{Cells};
-ghost use Rattle.row.specs.Changes.{IsCovered};
+ghost use Rattle.row.specs.{Cells.Cells, Changes.IsCovered};
 
 use super::words::{push_row, row, rows, value};
 use partial::gather::Gather;

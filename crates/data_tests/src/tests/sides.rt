@@ -1,7 +1,6 @@
 //! A stage of sides in full: it leaves nothing untold.
 ghost use Rattle.std.specs.Prelude.{◌≡◌, ◌∷◌, [], IfOk, pos};
-ghost use Rattle.row.specs.Cells.{int};
-ghost use Rattle.row.specs.declared.record.Sign.TheVariants.{Plus};
+ghost use Rattle.row.specs.{Cells.int, declared.record.Sign.TheVariants.Plus};
 
 use ops::shape::Shape;
 use ops::side::{Side, SideRows};

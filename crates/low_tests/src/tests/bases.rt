@@ -3,8 +3,7 @@
 ghost use Rattle.std.specs.Prelude.{◌≡◌, [], length, IfOk};
 ghost use Rattle.plan.specs.Recipes.{notes_plan};
 ghost use Rattle.model.specs.Fronts.{LogView};
-ghost use Rattle.base_domain.specs.Codes.{message_of};
-ghost use Rattle.base_domain.specs.Received.{IsFor};
+ghost use Rattle.base_domain.specs.{Codes.message_of, Received.IsFor};
 
 use super::fronts::note;
 use base_domain::base_domain::BaseDomain;

@@ -1,8 +1,6 @@
 //! Values, rows, bags, and rows by a column.
 ghost use Rattle.std.specs.Prelude.{◌≡◌, ◌∷◌, [], List, IfOk};
-ghost use Rattle.row.specs.Cells.{Cells, int};
-ghost use Rattle.row.specs.Changes.{IsCovered};
-ghost use Rattle.row.specs.Groups.{wide};
+ghost use Rattle.row.specs.{Cells.Cells, Cells.int, Changes.IsCovered, Groups.wide};
 
 use super::cells::Cell::{self, Int, Text};
 use super::cells::{row, value};

@@ -2,8 +2,8 @@ use Rattle.std.proofs.Common.{◌≡◌, None, length, ◌∙◌, ap, refl, rule
 use Rattle.std.proofs.lemmas.List.FromFn.{length-map-range_with_len}
 use Rattle.base_domain.specs.Told.{part_packet}
 use Rattle.base_domain.proofs.Parts.{told_some, told_none}
-use Rattle.base_domain.proofs.tells.tell.Goals as goal
-use Rattle.base_domain.proofs.tells.tell.Goals.{in-Some+in_ok-packets, in_default}
+use Rattle.base_domain.proofs.writing.tell.Goals as goal
+use Rattle.base_domain.proofs.writing.tell.Goals.{in-Some+in_ok-packets, in_default}
 
 pub send_to_each-requires-clause-count : goal.send_to_each-requires-clause-count
 send_to_each-requires-clause-count g c =

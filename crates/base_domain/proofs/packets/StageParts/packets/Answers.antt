@@ -4,7 +4,7 @@ use Rattle.std.proofs.lemmas.List.FromFn.{length-map-range_with_len}
 use Rattle.base_domain.specs.Told.{part_packet}
 use Rattle.packet.proofs.Sends.{made_more}
 use Rattle.base_domain.proofs.Parts.{part_at, part_lt, part_is, part_true, count_more}
-use Rattle.base_domain.proofs.stage_parts.StageParts.packets.Goals as goal
+use Rattle.base_domain.proofs.packets.StageParts.packets.Goals as goal
 
 pub loop-changes-init : goal.loop-changes-init
 loop-changes-init g c =
