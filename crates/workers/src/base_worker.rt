@@ -73,8 +73,8 @@ fn id_of(plan: &Plan, base: usize) -> DomainId {
     }
 }
 
-// Takes one message, sends its packets, and then its reply. Where a packet is refused the domain
-// stops: a later one would come out of turn.
+// Takes one message, sends its reply, for which a session waits, and then its packets. Where a packet
+// is refused the domain stops: a later one would come out of turn.
 fn turn<J: Naming, R: Wait>(
     worker: &Worker<J, R>,
     domain: &mut BaseDomain<Front<J>>,
@@ -100,10 +100,10 @@ fn turn<J: Naming, R: Wait>(
         mail,
         out,
     );
-    pass_on(worker, domain, out);
     if let Some(reply) = reply {
         routes.reply(rt, reply);
     }
+    pass_on(worker, domain, out);
     if was_running && domain.is_stopped() {
         routes.stop(rt, Spot::Base(base));
     }
