@@ -137,7 +137,7 @@ fn note(alloc: Global) -> Result<Row, AllocError>
     cells.push(Value::Int(1))?;
     cells.push(AUTHOR)?;
     cells.push(Value::Text(String::from_str(alloc, "a")?))?;
-    Ok(Row::new(cells))
+    Row::new(alloc, cells)
 }
 
 // The front of a right to the empty log, after the first note.

@@ -52,11 +52,19 @@ impl Bag {
         rows
     }
 
-    /// The same rows in memory of their own. Errors: memory only. Cost: a copy of each row.
+    /// The same rows. Errors: memory only. Cost: that of `Row::try_clone` for each row.
     pub fn try_clone(&self, alloc: Global) -> Result<Bag, AllocError>
         ensures { IfOk result (λ b. b ≡ self.now) }
     {
         let rows = copies(alloc, self.rows())?;
+        Ok(Bag { rows })
+    }
+
+    /// The same rows, each in memory of its own. Errors: memory only. Cost: a copy of each row.
+    pub fn apart(&self, alloc: Global) -> Result<Bag, AllocError>
+        ensures { IfOk result (λ b. b ≡ self.now) }
+    {
+        let rows = apart(alloc, self.rows())?;
         Ok(Bag { rows })
     }
 
@@ -198,13 +206,24 @@ fn place(rows: &[Row], row: &Row) -> usize
     rows.partition_point(|other| row.cmp(other).is_gt())
 }
 
-/// Copies of the rows, in memory that is taken once for all of them but for their values.
+/// The same rows, in a list whose memory is taken once.
 fn copies(alloc: Global, rows: &[Row]) -> Result<Vec<Row>, AllocError>
     ensures { IfOk result (λ v. v.items ≡ rows.now) }
 {
     let mut all = Vec::with_capacity(alloc, rows.len())?;
     for row in rows {
         all.push(row.try_clone(alloc)?)?;
+    }
+    Ok(all)
+}
+
+/// The same rows, each in memory of its own.
+fn apart(alloc: Global, rows: &[Row]) -> Result<Vec<Row>, AllocError>
+    ensures { IfOk result (λ v. v.items ≡ rows.now) }
+{
+    let mut all = Vec::with_capacity(alloc, rows.len())?;
+    for row in rows {
+        all.push(row.apart(alloc)?)?;
     }
     Ok(all)
 }

@@ -23,8 +23,7 @@ pub struct Record {
 }
 
 impl Record {
-    /// The same record in memory of its own. Errors: memory only. Cost: the length of the row and
-    /// of its texts.
+    /// The same record. Errors: memory only. Cost: that of `Row::try_clone`.
     pub fn try_clone(&self, alloc: Global) -> Result<Record, AllocError>
         ensures { IfOk result (λ r. r ≡ self.now) }
     {

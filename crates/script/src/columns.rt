@@ -30,7 +30,7 @@ pub fn row_of(
         let kind = kind_of_column(plan, table, cells.len());
         cells.push(value_of(alloc, kind, word)?)?;
     }
-    Ok(Row::new(cells))
+    Row::new(alloc, cells)
 }
 
 // The kind of a column of the table at the place.

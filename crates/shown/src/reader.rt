@@ -212,5 +212,5 @@ fn found<J: Naming>(alloc: Global, shown: &Shown<J>, key: &Value) -> Result<Look
     let Some(rows) = shown.entry(key) else {
         return Ok(Look::Miss);
     };
-    Ok(Look::Hit(rows.try_clone(alloc)?, shown.cut().try_clone(alloc)?))
+    Ok(Look::Hit(rows.apart(alloc)?, shown.cut().try_clone(alloc)?))
 }

@@ -29,7 +29,7 @@ pub fn note(alloc: Global, id: i128, author: i128) -> Result<Row, AllocError>
     cells.push(Value::Int(id))?;
     cells.push(Value::Int(author))?;
     cells.push(Value::Text(String::from_str(alloc, "a")?))?;
-    Ok(Row::new(cells))
+    Row::new(alloc, cells)
 }
 
 // The entry, which fits the table of notes and is in its only shard.

@@ -100,7 +100,7 @@ pub fn answer<J: Naming, R: Wait>(
 fn written_by(alloc: Global, call: Call) -> Result<Option<(&'static str, Entry)>, AllocError> {
     Ok(match call {
         Call::Insert(table, id) => Some((table, Entry::Insert(numbered(alloc, id)?))),
-        Call::InsertShortRow => Some((NOTES, Entry::Insert(Row::new(Vec::new(alloc))))),
+        Call::InsertShortRow => Some((NOTES, Entry::Insert(Row::new(alloc, Vec::new(alloc))?))),
         Call::Update(id, author) => Some((NOTES, Entry::Update(note(alloc, id, author)?))),
         Call::Delete(id) => Some((NOTES, Entry::Delete(Value::Int(id)))),
         Call::DeleteText => Some((NOTES, Entry::Delete(text(alloc)?))),

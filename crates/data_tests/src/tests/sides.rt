@@ -19,7 +19,7 @@ fn coming(alloc: Global) -> Result<Vec<Record>, AllocError>
     let mut cells = Vec::new(alloc);
     cells.push(Value::Int(5))?;
     cells.push(Value::Int(7))?;
-    let row = Row::new(cells);
+    let row = Row::new(alloc, cells)?;
     let mut records = Vec::new(alloc);
     records.push(Record {
         row,

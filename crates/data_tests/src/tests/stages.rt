@@ -278,7 +278,7 @@ fn any_gain(alloc: Global, seed: &mut u64) -> Result<Record, AllocError> {
     for _ in 0..3 {
         values.push(Value::Int(i128::from(next(seed, 4)) - 1))?;
     }
-    let row = Row::new(values);
+    let row = Row::new(alloc, values)?;
     let sign = Sign::Plus;
     Ok(Record { row, sign })
 }

@@ -22,7 +22,7 @@ pub fn row(alloc: Global, words: &str) -> Result<Row, AllocError> {
     for word in words.split(' ') {
         values.push(value(alloc, word)?)?;
     }
-    Ok(Row::new(values))
+    Row::new(alloc, values)
 }
 
 /// Rows with `;` between each two; no text is no row.

@@ -22,5 +22,5 @@ pub fn row(alloc: Global, cells: &[Cell]) -> Result<Row, AllocError> {
     for cell in cells {
         values.push(value(alloc, *cell)?)?;
     }
-    Ok(Row::new(values))
+    Row::new(alloc, values)
 }

@@ -21,7 +21,7 @@ pub fn note(alloc: Global, author: u8) -> Result<Row, AllocError>
     cells.push(Value::Int(1))?;
     cells.push(Value::Int(i128::from(author)))?;
     cells.push(Value::Text(String::from_str(alloc, "a")?))?;
-    Ok(Row::new(cells))
+    Row::new(alloc, cells)
 }
 
 // Whether the right, to the empty log of the only base shard, takes a note; then its front has it,

@@ -132,7 +132,7 @@ fn row(alloc: Global, key: Value, group: u64) -> Result<Row, AllocError>
     if group < GROUPS - 1 {
         cells.push(Value::Int(i128::from(group)))?;
     }
-    Ok(Row::new(cells))
+    Row::new(alloc, cells)
 }
 
 // Writes an entry that is allowed.

@@ -129,12 +129,14 @@ fn are_rows(alloc: Global, rows: &[Row], text: &str) -> Result<bool, AllocError>
 
 fn keeps_repeats(alloc: Global, bag: &mut Bag) -> Result<bool, AllocError> {
     let copy = bag.try_clone(alloc)?;
+    let apart = bag.apart(alloc)?;
     Ok(
         are_rows(alloc, bag.rows(), "1 7;2 0;2 0;")?
             && take(alloc, bag, &[Int(2), Int(0)])?
             && !take(alloc, bag, &[Int(1), Int(8)])?
             && are_rows(alloc, bag.rows(), "1 7;2 0;")?
-            && are_rows(alloc, copy.rows(), "1 7;2 0;2 0;")?,
+            && are_rows(alloc, copy.rows(), "1 7;2 0;2 0;")?
+            && are_rows(alloc, apart.rows(), "1 7;2 0;2 0;")?,
     )
 }
 
@@ -164,7 +166,7 @@ fn a_record_is_copied_whole(rt: HostRuntime) -> Result<(), Fail> {
 fn signed(alloc: Global, id: i128, author: i128, sign: Sign) -> Result<Record, AllocError>
     ensures { IfOk result (λ r. r ≡ record { row = int id ∷ int author ∷ []; sign = sign }) }
 {
-    let row = Row::new(vec![in alloc; Value::Int(id), Value::Int(author)]?);
+    let row = Row::new(alloc, vec![in alloc; Value::Int(id), Value::Int(author)]?)?;
     Ok(Record { row, sign })
 }
 

@@ -3,7 +3,8 @@ use Rattle.std.proofs.lemmas.Grind.{common_steps}
 use Rattle.std.proofs.lemmas.List.{length-map, map-append, map-id}
 use Rattle.std.proofs.lemmas.Iterator.Adapters.{YieldsList-from_vec}
 use Rattle.std.proofs.lemmas.Iterator.Consumers.{YieldsList-end}
-use Rattle.row.specs.Cells.{datum_of}
+use Rattle.std.proofs.lemmas.Result.{IfOk-weaker}
+use Rattle.row.specs.Cells.{Cells, datum_of}
 use Rattle.script.specs.Values.{IsRead}
 use Rattle.plan.specs.Layouts.{table_named}
 use Rattle.script.specs.Columns.{AreCells, IsRow, kind_of_column}
@@ -23,8 +24,8 @@ loop-word-preserved c =
     }
 
 -- all words are the row
-read : (c : goal.After-new) → IsRow c.args.plan.now c.args.table.now (map string_bytes c.args.words.items) c.new.result
-read c =
+read : (c : goal.After-new) (r : Cells) → r ≡ map datum_of c.loop-word.cells.items → IsRow c.args.plan.now c.args.table.now (map string_bytes c.args.words.items) r
+read c r is =
     let p = c.args.plan.now in
     let kinds = kind_of_column p c.table_named-table.result in
     let from = c.into_iter-word-iterator.ensures.into_iter_gives in
@@ -32,12 +33,14 @@ read c =
     let whole : c.loop-word.yielded ≡ c.args.words.items = sym (map-id c.loop-word.yielded) ∙ t.0 in
     let words = map string_bytes c.args.words.items in
     let cells = subst (λ ws. AreCells kinds 0 (map string_bytes ws) (map datum_of c.loop-word.cells.items)) whole c.loop-word.invariant.read in
-    let row = subst (λ r. AreCells kinds 0 words r) (sym c.new.ensures) cells in
-    subst (λ place. AreCells (kind_of_column p place) 0 words c.new.result) c.table_named-table.ensures.place row
+    let row = subst (λ r. AreCells kinds 0 words r) (sym is) cells in
+    subst (λ place. AreCells (kind_of_column p place) 0 words r) c.table_named-table.ensures.place row
 
 pub returns-clause-row : goal.returns-clause-row
-returns-clause-row c = read c
+returns-clause-row c = IfOk-weaker c.new.result (λ r. r ≡ map datum_of c.loop-word.cells.items) (λ r. IsRow c.args.plan.now c.args.table.now (map string_bytes c.args.words.items) r) (read c) c.new.ensures
 
 pub returns-clause-only : goal.returns-clause-only
-returns-clause-only c = λ other is.
-    cells_once (kind_of_column c.args.plan.now (table_named c.args.plan.now c.args.table.now)) 0 (map string_bytes c.args.words.items) other c.new.result is (read c)
+returns-clause-only c =
+    IfOk-weaker c.new.result (λ r. r ≡ map datum_of c.loop-word.cells.items) (λ r. (other : Cells) → IsRow c.args.plan.now c.args.table.now (map string_bytes c.args.words.items) other → other ≡ r)
+    (λ r is other own. cells_once (kind_of_column c.args.plan.now (table_named c.args.plan.now c.args.table.now)) 0 (map string_bytes c.args.words.items) other r own (read c r is))
+    c.new.ensures
