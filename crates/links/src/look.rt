@@ -2,16 +2,20 @@
 use crossbeam_utils::Backoff;
 use std::sync::atomic::{AtomicBool, Ordering};
 
-/// Looks until the flag is up, or it is time to sleep. It takes no lock.
+/// Looks until the flag is up, or it is time to sleep: two rounds of a `Backoff`, which is as long as
+/// a channel of crossbeam looks. It takes no lock.
 pub fn look(ready: &AtomicBool) {
     let backoff = Backoff::new();
     for _ in 0..LOOKS {
-        if ready.load(Ordering::SeqCst) || backoff.is_completed() {
+        if ready.load(Ordering::SeqCst) {
             return;
+        }
+        if backoff.is_completed() {
+            backoff.reset();
         }
         backoff.snooze();
     }
 }
 
-/// More looks than a `Backoff` has rounds.
-const LOOKS: u32 = 16;
+/// Twice as many as the rounds of a `Backoff`.
+const LOOKS: u32 = 22;
