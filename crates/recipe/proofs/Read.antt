@@ -11,9 +11,9 @@ use Rattle.plan.specs.declared.kinds.Op.{Op}
 use Rattle.plan.specs.declared.kinds.Op.TheVariants as op
 use Rattle.toml.specs.Data.{Data, Items, no_items, item, Members, no_members, get, as_str, as_integer, as_array, as_table, table}
 use Rattle.recipe.specs.Words.{text_of, natural, whole_of, listed, items_of, members_of, has_only, kind_of, op_of, word_of, word_at_field, is_space, columns_of, side_columns, right_side_columns}
-use Rattle.recipe.specs.Checks.{Part, the_recipe, a_table, the_stage, a_condition, a_view, Field, fields_of, Checks, has_bytes, is_column, column_checks, if_any, field_checks, part_checks, no_checks, document_checks, is_sum}
+use Rattle.recipe.specs.Checks.{Part, the_recipe, a_table, the_stage, a_condition, a_view, Field, fields_of, names_of, Checks, has_bytes, is_column, column_checks, if_any, field_checks, part_checks, no_checks, document_checks, is_sum}
 use Rattle.recipe.specs.Drafts.{field_or, each_in, column_said, table_said, columns_said, tables_said, op_said, value_or_number, value_said, condition_said, right_of, told_columns_said, aggregate_of_word, left_said, right_said, aggregate_said, text_at, whole_at, view_said, stage_said, draft_said}
-use Rattle.recipe.specs.Fields.{◌>>=◌, StageLayout, kinded, text_in, whole_in, list_in, table_in, each, needed, optional, paired, finish, column_named, column_at, columns_at, table_at, op_at, value_of, value_at, condition_at, conditions_at, word_at, aggregate_of, right_conditions, right_columns, told_columns, right_side, stage_at, view_at, tables_at, views_at, draft_at}
+use Rattle.recipe.specs.Fields.{◌>>=◌, StageLayout, kinded, text_in, whole_in, list_in, table_in, each, needed, optional, needed_text, needed_whole, paired, finish, column_named, column_at, columns_at, table_at, op_at, value_of, value_at, condition_at, conditions_at, word_at, aggregate_of, right_conditions, right_columns, told_columns, right_side, stage_at, view_at, tables_at, views_at, draft_at}
 use Rattle.recipe.specs.Plans.{unless, judged, plan_at}
 use Rattle.recipe.specs.declared.word.Word.{Word}
 use Rattle.recipe.specs.declared.word.Word.TheVariants as word
@@ -95,9 +95,6 @@ joined_is : (g : Field → Checks) (fs : List Field) (last : Checks) → joined 
 joined_is g [] last = refl
 joined_is g (f ∷ fs) last = ap (λ t. g f ++ t) (joined_is g fs last) ∙ sym (append_assoc (g f) (flat_map g fs) last)
 
-abbrev names_of : Part → List (List ℕ)
-names_of part = map (λ (f : Field). f.name) (fields_of part)
-
 -- what is left of a member gives y, or fails in the checks of these fields or the last one
 record Reads {X : Type 0} (g : Field → Checks) (fs : List Field) (last : Checks) (y : X) (r : Result X ℕ) : Type 0 where
   reads : r ≡ unless (first_refusal (joined g fs last)) y
@@ -125,10 +122,10 @@ texts x = (is_some (as_str x), 23) ∷ []
 abbrev wholes : Data → Checks
 wholes x = (is_some (as_integer x), 23) ∷ []
 
-text_row : (name : List ℕ) (d : Data) → needed text_in (get name d) ≡ unless (first_refusal (((is_some (get name d), 21) ∷ []) ++ if_any texts (get name d))) (text_at name d)
+text_row : (name : List ℕ) (d : Data) → needed_text name d ≡ unless (first_refusal (((is_some (get name d), 21) ∷ []) ++ if_any texts (get name d))) (text_at name d)
 text_row name d = is_needed [] text_in text_of texts text_is (get name d)
 
-whole_row : (name : List ℕ) (d : Data) → needed whole_in (get name d) ≡ unless (first_refusal (((is_some (get name d), 21) ∷ []) ++ if_any wholes (get name d))) (whole_at name d)
+whole_row : (name : List ℕ) (d : Data) → needed_whole name d ≡ unless (first_refusal (((is_some (get name d), 21) ∷ []) ++ if_any wholes (get name d))) (whole_at name d)
 whole_row name d = is_needed 0 whole_in whole_of wholes whole_is (get name d)
 
 -- ---- tables

@@ -43,19 +43,14 @@ pub record Field : Type 0 where
 abbrev pub field : List ℕ → Holds → Need → Field
 field name holds need = record { name = name; holds = holds; need = need }
 
+-- fields that are all needed
+abbrev pub always_there : List (List ℕ × Holds) → List Field
+always_there fields = map (λ (f : List ℕ × Holds). field f.0 f.1 always) fields
+
 -- ---- the table
 abbrev pub fields_of : Part → List Field
-fields_of the_recipe =
-    field (codes "table") (many a_table) always
-    ∷ field (codes "stage") (one the_stage) always
-    ∷ field (codes "view") (many a_view) always
-    ∷ []
-fields_of a_table =
-    field (codes "name") a_text always
-    ∷ field (codes "shards") a_whole_number always
-    ∷ field (codes "key") a_text always
-    ∷ field (codes "columns") columns always
-    ∷ []
+fields_of the_recipe = always_there ((codes "table", many a_table) ∷ (codes "stage", one the_stage) ∷ (codes "view", many a_view) ∷ [])
+fields_of a_table = always_there ((codes "name", a_text) ∷ (codes "shards", a_whole_number) ∷ (codes "key", a_text) ∷ (codes "columns", columns) ∷ [])
 fields_of the_stage =
     field (codes "shards") a_whole_number always
     ∷ field (codes "left") a_text always
@@ -68,17 +63,12 @@ fields_of the_stage =
     ∷ field (codes "right_where") (many a_condition) (only_with (codes "right"))
     ∷ field (codes "cap") a_whole_number perhaps
     ∷ []
-fields_of a_condition =
-    field (codes "column") a_text always
-    ∷ field (codes "op") a_comparison always
-    ∷ field (codes "value") a_number_or_text always
-    ∷ []
-fields_of a_view =
-    field (codes "name") a_text always
-    ∷ field (codes "key") a_text always
-    ∷ field (codes "shards") a_whole_number always
-    ∷ field (codes "cap") a_whole_number always
-    ∷ []
+fields_of a_condition = always_there ((codes "column", a_text) ∷ (codes "op", a_comparison) ∷ (codes "value", a_number_or_text) ∷ [])
+fields_of a_view = always_there ((codes "name", a_text) ∷ (codes "key", a_text) ∷ (codes "shards", a_whole_number) ∷ (codes "cap", a_whole_number) ∷ [])
+
+-- the names of the fields of a part
+abbrev pub names_of : Part → List (List ℕ)
+names_of part = map (λ (f : Field). f.name) (fields_of part)
 
 -- ---- checks: what must hold, and the number of the refusal where it does not
 abbrev pub Checks : Type 0
@@ -146,7 +136,7 @@ field_checks within d f = need_checks f.need (has f.name d) d ++ if_any (kind_ch
 abbrev pub part_checks : (Part → Data → Checks) → Part → Data → Checks
 part_checks within part d =
     (is_some (as_table d), mistyped)
-    ∷ (flat_map (field_checks within d) (fields_of part) ++ (has_only (map (λ (f : Field). f.name) (fields_of part)) (members_of d), mistyped) ∷ [])
+    ∷ (flat_map (field_checks within d) (fields_of part) ++ (has_only (names_of part) (members_of d), mistyped) ∷ [])
 
 -- conditions have no parts, the stage has conditions, the recipe has tables, a stage and views
 abbrev pub no_checks : Part → Data → Checks

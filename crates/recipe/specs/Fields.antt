@@ -11,7 +11,7 @@ use Rattle.plan.specs.declared.kinds.Aggregate.{Aggregate}
 use Rattle.plan.specs.declared.kinds.Aggregate.TheVariants.{Count, Sum}
 use Rattle.toml.specs.Data.{Data, Items, no_items, item, Members, get, as_str, as_integer, as_array, as_table}
 use Rattle.recipe.specs.Words.{natural, has_only, kind_of, op_of, word_of, is_space, column_place, table_place, columns_of, side_columns, right_side_columns, column_of_both}
-use Rattle.recipe.specs.Checks.{missing, mistyped}
+use Rattle.recipe.specs.Checks.{the_recipe, a_table, the_stage, a_condition, a_view, names_of, missing, mistyped}
 use Rattle.recipe.specs.declared.word.Word.{Word}
 use Rattle.recipe.specs.declared.word.Word.TheVariants as word
 
@@ -57,6 +57,13 @@ abbrev pub optional : {X : Type 0} → X → (Data → Result X ℕ) → Option 
 optional x read None = Ok x
 optional x read (Some d) = read d
 
+-- the text or the whole number at a needed field
+abbrev pub needed_text : List ℕ → Data → Result (List ℕ) ℕ
+needed_text name d = needed text_in (get name d)
+
+abbrev pub needed_whole : List ℕ → Data → Result ℕ ℕ
+needed_whole name d = needed whole_in (get name d)
+
 -- a text that is there exactly if its partner is
 abbrev pub paired : Option Data → Option Data → Result (Option (List ℕ)) ℕ
 paired None None = Ok None
@@ -89,17 +96,14 @@ columns_at d = do
   ds ← list_in d
   each column_at ds
 
-abbrev pub table_fields : List (List ℕ)
-table_fields = codes "name" ∷ codes "shards" ∷ codes "key" ∷ codes "columns" ∷ []
-
 unfoldable pub table_at : Data → Result TableLayout ℕ
 table_at d = do
   ms ← table_in d
-  name ← needed text_in (get (codes "name") d)
-  shards ← needed whole_in (get (codes "shards") d)
-  key ← needed text_in (get (codes "key") d)
+  name ← needed_text (codes "name") d
+  shards ← needed_whole (codes "shards") d
+  key ← needed_text (codes "key") d
   columns ← needed columns_at (get (codes "columns") d)
-  finish (has_only table_fields ms) (record { name = name; shards = shards; key = column_place columns key; columns = columns })
+  finish (has_only (names_of a_table) ms) (record { name = name; shards = shards; key = column_place columns key; columns = columns })
 
 -- ---- a condition on a column of these
 unfoldable pub op_at : Data → Result Op ℕ
@@ -115,16 +119,13 @@ value_of None None = Err mistyped
 abbrev pub value_at : Data → Result Datum ℕ
 value_at d = value_of (as_str d) (as_integer d)
 
-abbrev pub condition_fields : List (List ℕ)
-condition_fields = codes "column" ∷ codes "op" ∷ codes "value" ∷ []
-
 unfoldable pub condition_at : List ColumnLayout → Data → Result ConditionLayout ℕ
 condition_at columns d = do
   ms ← table_in d
-  column ← needed text_in (get (codes "column") d)
+  column ← needed_text (codes "column") d
   o ← needed op_at (get (codes "op") d)
   value ← needed value_at (get (codes "value") d)
-  finish (has_only condition_fields ms) (record { column = column_place columns column; op = o; value = value })
+  finish (has_only (names_of a_condition) ms) (record { column = column_place columns column; op = o; value = value })
 
 unfoldable pub conditions_at : List ColumnLayout → Data → Result (List ConditionLayout) ℕ
 conditions_at columns d = do
@@ -172,10 +173,6 @@ right_side tables (Some name) (Some key) conditions = Some (side_of tables name 
 right_side tables (Some name) None conditions = None
 right_side tables None key conditions = None
 
-abbrev pub stage_fields : List (List ℕ)
-stage_fields =
-    codes "shards" ∷ codes "left" ∷ codes "left_key" ∷ codes "right" ∷ codes "right_key" ∷ codes "aggregate" ∷ codes "sum" ∷ codes "left_where" ∷ codes "right_where" ∷ codes "cap" ∷ []
-
 pub record StageLayout : Type 0 where
   pub shards : ℕ
   pub left : SideLayout
@@ -186,9 +183,9 @@ pub record StageLayout : Type 0 where
 unfoldable pub stage_at : List TableLayout → Data → Result StageLayout ℕ
 stage_at tables d = do
   ms ← table_in d
-  shards ← needed whole_in (get (codes "shards") d)
-  left ← needed text_in (get (codes "left") d)
-  left_key ← needed text_in (get (codes "left_key") d)
+  shards ← needed_whole (codes "shards") d
+  left ← needed_text (codes "left") d
+  left_key ← needed_text (codes "left_key") d
   right ← paired (get (codes "right") d) (get (codes "right_key") d)
   right_key ← paired (get (codes "right_key") d) (get (codes "right") d)
   w ← optional None word_at (get (codes "aggregate") d)
@@ -196,7 +193,7 @@ stage_at tables d = do
   left_where ← optional [] (conditions_at (columns_of tables left)) (get (codes "left_where") d)
   right_where ← right_conditions (right_columns tables right) right (get (codes "right_where") d)
   cap ← optional 1024 whole_in (get (codes "cap") d)
-  finish (has_only stage_fields ms) (record {
+  finish (has_only (names_of the_stage) ms) (record {
     shards = shards;
     left = side_of tables left left_key left_where;
     right = right_side tables right right_key right_where;
@@ -205,17 +202,14 @@ stage_at tables d = do
   })
 
 -- ---- a view, keyed by one of the left columns or, behind them, of the right ones
-abbrev pub view_fields : List (List ℕ)
-view_fields = codes "name" ∷ codes "key" ∷ codes "shards" ∷ codes "cap" ∷ []
-
 unfoldable pub view_at : List ColumnLayout → List ColumnLayout → Data → Result ViewLayout ℕ
 view_at lefts rights d = do
   ms ← table_in d
-  name ← needed text_in (get (codes "name") d)
-  key ← needed text_in (get (codes "key") d)
-  shards ← needed whole_in (get (codes "shards") d)
-  cap ← needed whole_in (get (codes "cap") d)
-  finish (has_only view_fields ms) (record { name = name; key = column_of_both lefts rights key; shards = shards; cap = cap })
+  name ← needed_text (codes "name") d
+  key ← needed_text (codes "key") d
+  shards ← needed_whole (codes "shards") d
+  cap ← needed_whole (codes "cap") d
+  finish (has_only (names_of a_view) ms) (record { name = name; key = column_of_both lefts rights key; shards = shards; cap = cap })
 
 -- ---- the whole document
 unfoldable pub tables_at : Data → Result (List TableLayout) ℕ
@@ -228,16 +222,13 @@ views_at lefts rights d = do
   ds ← list_in d
   each (view_at lefts rights) ds
 
-abbrev pub top_fields : List (List ℕ)
-top_fields = codes "table" ∷ codes "stage" ∷ codes "view" ∷ []
-
 unfoldable pub draft_at : Data → Result Layout ℕ
 draft_at d = do
   ms ← table_in d
   tables ← needed tables_at (get (codes "table") d)
   stage ← needed (stage_at tables) (get (codes "stage") d)
   views ← needed (views_at (side_columns tables stage.left) (right_side_columns tables stage.right)) (get (codes "view") d)
-  finish (has_only top_fields ms) (record {
+  finish (has_only (names_of the_recipe) ms) (record {
     tables = tables;
     stages = stage.shards;
     left = stage.left;

@@ -2,7 +2,7 @@
 ghost use Rattle.std.specs.Prelude.{◌≡◌};
 ghost use Rattle.std.specs.Option.{option_copied};
 ghost use Rattle.toml.specs.{Data.get, View.view, View.array_view, View.table_view};
-ghost use Rattle.recipe.specs.{Errors.Gives, Words.natural, Fields.text_in, Fields.whole_in, Fields.list_in, Fields.table_in, Fields.needed, Fields.optional, Fields.paired};
+ghost use Rattle.recipe.specs.{Errors.Gives, Words.natural, Fields.text_in, Fields.whole_in, Fields.list_in, Fields.table_in, Fields.needed_text, Fields.needed_whole, Fields.optional, Fields.paired};
 
 use crate::error::{Part, Place, PlanError};
 use toml::value::Array;
@@ -70,7 +70,7 @@ pub(crate) fn text<'a>(
     part: Part,
     field: &'static str,
 ) -> Result<&'a str, PlanError>
-    ensures { Gives (λ s. s.now) result (needed text_in (get field.now (view member.now))) }
+    ensures { Gives (λ s. s.now) result (needed_text field.now (view member.now)) }
 {
     match member.get(field) {
         Some(value) => text_in(value, part.field(field)),
@@ -80,7 +80,7 @@ pub(crate) fn text<'a>(
 
 /// The whole number at a field that is needed.
 pub(crate) fn whole(member: &Value, part: Part, field: &'static str) -> Result<usize, PlanError>
-    ensures { Gives (λ n. n) result (needed whole_in (get field.now (view member.now))) }
+    ensures { Gives (λ n. n) result (needed_whole field.now (view member.now)) }
 {
     match member.get(field) {
         Some(value) => whole_in(value, part.field(field)),
