@@ -1,5 +1,5 @@
-//! The calls of a session with no clause, so that the proof of a test does not carry what each
-//! says.
+//! Calls of a running system and its sessions with no clause, so that the proof of a test does not
+//! carry what each says.
 use crate::notes::note;
 use book::law::Naming;
 use model::entry::Entry;
@@ -10,6 +10,7 @@ use sessions::session::{Accepted, Session};
 use std::alloc::{AllocError, Global};
 use std::sync::Wait;
 use std::test::Fail;
+use std::thread::{self, Threads};
 use system::system::System;
 
 // A thread to which memory was refused has stopped.
@@ -25,60 +26,106 @@ pub fn wrong(place: usize) -> Fail {
     Fail::new(place)
 }
 
-pub fn next<J: Naming + Send + Sync + 'static>(
-    system: &mut System<J>,
-    alloc: Global,
-) -> Result<Session<J>, Refused> {
-    system.session(alloc)
+// A failure where the answers of all are not right.
+pub fn expect(right: bool) -> Result<(), Fail> {
+    if right { Ok(()) } else { Err(wrong(0)) }
 }
 
-pub fn write<J: Naming, R: Wait>(
-    rt: &R,
-    alloc: Global,
-    session: &mut Session<J>,
-    table: &str,
-    entry: Entry,
-) -> Result<Accepted, Refused> {
-    session.write(rt, alloc, table, entry)
+/// A running system, and what its sessions wait with and allocate from.
+#[derive(Drop)]
+pub struct Running<J: Naming, R> {
+    pub rt: R,
+    pub alloc: Global,
+    pub system: System<J>,
 }
 
-pub fn fence<J: Naming, R: Wait>(
-    rt: &R,
-    alloc: Global,
-    session: &mut Session<J>,
-) -> Result<(), Refused> {
-    session.fence(rt, alloc)
-}
+impl<J: Naming + Send + Sync + 'static, R: Threads + Wait + Copy + Drop + Send + 'static> Running<
+    J,
+    R,
+> {
+    fn session(&mut self) -> Result<Session<J>, Refused> {
+        self.system.session(self.alloc)
+    }
 
-// Reads the rows of the key, or only where they are shown.
-pub fn look<J: Naming, R: Wait>(
-    rt: &R,
-    alloc: Global,
-    session: &mut Session<J>,
-    view: &str,
-    key: &Value,
-    waits: bool,
-) -> Result<Found, Refused> {
-    if waits {
-        Ok(Found::Hit(session.read(rt, alloc, view, key)?))
-    } else {
-        session.try_read(alloc, view, key)
+    pub fn is_none_left(&mut self) -> bool {
+        let extra = self.session();
+        matches!(extra, Err(Refused::NoSessionLeft))
+    }
+
+    // The next session.
+    pub fn next(&mut self) -> Result<Caller<J, R>, Fail> {
+        let session = self.session().map_err(fail)?;
+        Ok(Caller {
+            rt: self.rt,
+            alloc: self.alloc,
+            session,
+        })
+    }
+
+    // What comes of each of these, all of which are done at once, by sessions in threads of their
+    // own.
+    pub fn at_once<W: Work>(&mut self, works: &[W]) -> Result<Vec<W::Given>, Fail> {
+        let (rt, alloc) = (self.rt, self.alloc);
+        let mut threads = Vec::new(alloc);
+        for work in works {
+            let (work, session) = (*work, self.session().map_err(fail)?);
+            let calls = move || work.make(&mut Caller { rt, alloc, session });
+            threads.push(thread::spawn(&rt, calls)?)?;
+        }
+        let mut given = Vec::new(alloc);
+        for thread in threads {
+            given.push(thread.join(&rt).map_err(fail)?)?;
+        }
+        Ok(given)
+    }
+
+    pub fn stop(self) {
+        let Running { rt, system, .. } = self;
+        system.stop(&rt);
     }
 }
 
-pub fn meet<J: Naming>(first: &mut Session<J>, second: &mut Session<J>) {
-    first.meet(second);
+/// What a session does beside others.
+pub trait Work: Copy + Send + 'static {
+    type Given: Send + Drop + 'static;
+
+    fn make<J: Naming, R: Wait>(self, caller: &mut Caller<J, R>) -> Result<Self::Given, Refused>;
 }
 
-// Inserts a note, and gives its index.
-pub fn add<J: Naming, R: Wait>(
-    rt: &R,
-    alloc: Global,
-    session: &mut Session<J>,
-    id: i128,
-    author: i128,
-) -> Result<u64, Refused> {
-    let entry = Entry::Insert(note(alloc, id, author)?);
-    let accepted = write(rt, alloc, session, "notes", entry)?;
-    Ok(accepted.index)
+/// A session, and what its calls wait with and allocate from.
+#[derive(Drop)]
+pub struct Caller<J: Naming, R> {
+    pub rt: R,
+    pub alloc: Global,
+    pub session: Session<J>,
+}
+
+impl<J: Naming, R: Wait> Caller<J, R> {
+    pub fn write(&mut self, table: &str, entry: Entry) -> Result<Accepted, Refused> {
+        self.session.write(&self.rt, self.alloc, table, entry)
+    }
+
+    pub fn fence(&mut self) -> Result<(), Refused> {
+        self.session.fence(&self.rt, self.alloc)
+    }
+
+    // Reads the rows of the key, or only where they are shown.
+    pub fn look(&mut self, view: &str, key: &Value, waits: bool) -> Result<Found, Refused> {
+        if waits {
+            Ok(Found::Hit(self.session.read(&self.rt, self.alloc, view, key)?))
+        } else {
+            self.session.try_read(self.alloc, view, key)
+        }
+    }
+
+    pub fn meet(&mut self, other: &mut Caller<J, R>) {
+        self.session.meet(&mut other.session);
+    }
+
+    // Inserts a row of the table, by its id and its second cell, and gives its index.
+    pub fn add(&mut self, table: &str, id: i128, other: i128) -> Result<u64, Refused> {
+        let entry = Entry::Insert(note(self.alloc, id, other)?);
+        let accepted = self.write(table, entry)?;
+        Ok(accepted.index)
+    }
 }

@@ -1,34 +1,17 @@
 //! Sessions: inserts, fences, reads and meetings.
-use crate::asks::{add, fail, fence, meet, next, wrong};
+use crate::asks::{Caller, Running, Work, expect};
 use crate::runs::{Scene, run_notes};
-use crate::steps::{Call, Step, Told, make_all};
+use crate::steps::{Call, Step, Told};
 use book::law::Naming;
 use row::refused::Refused;
-use sessions::session::Session;
-use std::alloc::Global;
+use std::alloc::{AllocError, Global};
 use std::sync::Wait;
 use std::test::Fail;
-use std::thread::{self, JoinHandle, Threads};
-use system::system::System;
+use std::thread::Threads;
 
 #[test]
 fn one_session(rt: HostRuntime) -> Result<(), Fail> {
     run_notes(rt, rt.alloc(), 1, Scene::OneSession)
-}
-
-#[test]
-fn a_session_of_a_stopped_system(rt: HostRuntime) -> Result<(), Fail> {
-    run_notes(rt, rt.alloc(), 1, Scene::Stopped)
-}
-
-#[test]
-fn sessions_that_meet(rt: HostRuntime) -> Result<(), Fail> {
-    run_notes(rt, rt.alloc(), 2, Scene::Meeting)
-}
-
-#[test]
-fn four_sessions_at_once(rt: HostRuntime) -> Result<(), Fail> {
-    run_notes(rt, rt.alloc(), 4, Scene::FourSessions)
 }
 
 const OF_ONE: &[Step] = &[
@@ -55,6 +38,18 @@ const OF_ONE: &[Step] = &[
     (Call::DeleteText, Err(Refused::BadKey)),
 ];
 
+pub fn calls_of_one<
+    J: Naming + Send + Sync + 'static,
+    R: Threads + Wait + Copy + Drop + Send + 'static,
+>(running: &mut Running<J, R>) -> Result<(), Fail> {
+    running.next()?.make_all(OF_ONE)
+}
+
+#[test]
+fn a_session_of_a_stopped_system(rt: HostRuntime) -> Result<(), Fail> {
+    run_notes(rt, rt.alloc(), 1, Scene::Stopped)
+}
+
 const BEFORE_STOP: &[Step] = &[
     (Call::Insert("notes", 0), Ok(Told::Index(0))),
     (Call::Fence, Ok(Told::Fenced)),
@@ -69,6 +64,29 @@ const AFTER_STOP: &[Step] = &[
     (Call::Read(8), Err(Refused::Stopped)),
 ];
 
+pub fn calls_of_stopped<
+    J: Naming + Send + Sync + 'static,
+    R: Threads + Wait + Copy + Drop + Send + 'static,
+>(mut running: Running<J, R>) -> Result<(), Fail> {
+    let caller = used(&mut running);
+    running.stop();
+    caller?.make_all(AFTER_STOP)
+}
+
+// A session that has made calls.
+fn used<J: Naming + Send + Sync + 'static, R: Threads + Wait + Copy + Drop + Send + 'static>(
+    running: &mut Running<J, R>,
+) -> Result<Caller<J, R>, Fail> {
+    let mut caller = running.next()?;
+    caller.make_all(BEFORE_STOP)?;
+    Ok(caller)
+}
+
+#[test]
+fn sessions_that_meet(rt: HostRuntime) -> Result<(), Fail> {
+    run_notes(rt, rt.alloc(), 2, Scene::Meeting)
+}
+
 const OF_FIRST: &[Step] = &[(Call::Insert("notes", 0), Ok(Told::Index(0)))];
 
 const OF_SECOND: &[Step] = &[
@@ -82,58 +100,23 @@ const AFTER_MEETING: &[Step] = &[
     (Call::Read(8), Ok(Told::Rows(2, 1))),
 ];
 
-pub fn calls_of_one<J: Naming + Send + Sync + 'static, R: Wait>(
-    rt: &R,
-    alloc: Global,
-    system: &mut System<J>,
-) -> Result<(), Fail> {
-    let mut session = next(system, alloc).map_err(fail)?;
-    make_all(rt, alloc, &mut session, OF_ONE)
-}
-
-pub fn calls_of_stopped<J: Naming + Send + Sync + 'static, R: Threads + Wait>(
-    rt: &R,
-    alloc: Global,
-    mut system: System<J>,
-) -> Result<(), Fail> {
-    let session = used(rt, alloc, &mut system);
-    system.stop(rt);
-    make_all(rt, alloc, &mut session?, AFTER_STOP)
-}
-
-// A session that has made calls.
-fn used<J: Naming + Send + Sync + 'static, R: Wait>(
-    rt: &R,
-    alloc: Global,
-    system: &mut System<J>,
-) -> Result<Session<J>, Fail> {
-    let mut session = next(system, alloc).map_err(fail)?;
-    make_all(rt, alloc, &mut session, BEFORE_STOP)?;
-    Ok(session)
-}
-
-pub fn calls_of_two<J: Naming + Send + Sync + 'static, R: Wait>(
-    rt: &R,
-    alloc: Global,
-    system: &mut System<J>,
-) -> Result<(), Fail> {
-    let mut first = next(system, alloc).map_err(fail)?;
-    let mut second = next(system, alloc).map_err(fail)?;
-    call_and_meet(rt, alloc, &mut first, &mut second)
-}
-
 // Each of two sessions reads on where the other, which it met, has written.
-fn call_and_meet<J: Naming, R: Wait>(
-    rt: &R,
-    alloc: Global,
-    first: &mut Session<J>,
-    second: &mut Session<J>,
-) -> Result<(), Fail> {
-    make_all(rt, alloc, first, OF_FIRST)?;
-    meet(first, second);
-    make_all(rt, alloc, second, OF_SECOND)?;
-    meet(second, first);
-    make_all(rt, alloc, first, AFTER_MEETING)
+pub fn calls_of_two<
+    J: Naming + Send + Sync + 'static,
+    R: Threads + Wait + Copy + Drop + Send + 'static,
+>(running: &mut Running<J, R>) -> Result<(), Fail> {
+    let mut first = running.next()?;
+    let mut second = running.next()?;
+    first.make_all(OF_FIRST)?;
+    first.meet(&mut second);
+    second.make_all(OF_SECOND)?;
+    second.meet(&mut first);
+    first.make_all(AFTER_MEETING)
+}
+
+#[test]
+fn four_sessions_at_once(rt: HostRuntime) -> Result<(), Fail> {
+    run_notes(rt, rt.alloc(), 4, Scene::FourSessions)
 }
 
 /// How many rows of its own each of four sessions inserts, and how many that all of them do.
@@ -142,110 +125,81 @@ const OWN: usize = 1000;
 const SHARED: usize = 100;
 
 /// How many of all these are accepted.
-const ALL: usize = 4100;
+const ALL: usize = 4 * OWN + SHARED;
+
+/// One of four sessions, by its number.
+#[derive(Clone, Copy)]
+struct Part(usize);
+
+impl Work for Part {
+    type Given = Vec<u64>;
+
+    // Inserts rows of this part's own and then those of all, and gives the indexes of the accepted.
+    fn make<J: Naming, R: Wait>(self, caller: &mut Caller<J, R>) -> Result<Vec<u64>, Refused> {
+        let mut indexes = Vec::new(caller.alloc);
+        for number in 0..OWN + SHARED {
+            match caller.add("notes", self.id_of(number), self.0 as i128) {
+                Ok(index) => indexes.push(index).map_err(|_| Refused::NoMemory)?,
+                Err(Refused::Duplicate) => {}
+                Err(refused) => return Err(refused),
+            }
+        }
+        caller.fence()?;
+        Ok(indexes)
+    }
+}
+
+impl Part {
+    // The id of the row that it inserts under this number.
+    fn id_of(self, number: usize) -> i128 {
+        let id = if number < OWN {
+            number.wrapping_add(self.0.wrapping_mul(OWN))
+        } else {
+            number.wrapping_mul(OWN)
+        };
+        id as i128
+    }
+}
 
 pub fn calls_of_four<
     J: Naming + Send + Sync + 'static,
     R: Threads + Wait + Copy + Drop + Send + 'static,
->(rt: R, alloc: Global, system: &mut System<J>) -> Result<(), Fail> {
-    let callers = callers_of(rt, alloc, system);
-    let extra = is_none_left(alloc, system);
-    if are_all_given(&rt, alloc, callers?)? && extra {
-        Ok(())
-    } else {
-        Err(wrong(0))
-    }
+>(running: &mut Running<J, R>) -> Result<(), Fail> {
+    let given = running.at_once(&[Part(0), Part(1), Part(2), Part(3)])?;
+    let extra = running.is_none_left();
+    expect(are_all_given(running.alloc, given)? && extra)
 }
 
-// Starts the four callers.
-fn callers_of<J: Naming + Send + Sync + 'static, R: Threads + Wait + Copy + Drop + Send + 'static>(
-    rt: R,
-    alloc: Global,
-    system: &mut System<J>,
-) -> Result<Vec<JoinHandle<Result<Vec<u64>, Refused>>>, Fail> {
-    let mut callers = Vec::new(alloc);
-    for part in 0..4 {
-        let session = next(system, alloc).map_err(fail)?;
-        let work = move || indexes_of_part(rt, alloc, session, part);
-        callers.push(thread::spawn(&rt, work)?)?;
-    }
-    Ok(callers)
-}
-
-fn is_none_left<J: Naming + Send + Sync + 'static>(alloc: Global, system: &mut System<J>) -> bool {
-    let extra = next(system, alloc);
-    matches!(extra, Err(Refused::NoSessionLeft))
-}
-
-// Whether the callers give each index once, and all of them.
-fn are_all_given<R: Threads + Wait>(
-    rt: &R,
-    alloc: Global,
-    callers: Vec<JoinHandle<Result<Vec<u64>, Refused>>>,
-) -> Result<bool, Fail> {
-    let mut given = vec![in alloc; false; ALL]?;
+// Whether the sessions were given each index once, and all of them.
+fn are_all_given(alloc: Global, given: Vec<Vec<u64>>) -> Result<bool, AllocError> {
+    let mut marks = vec![in alloc; false; ALL]?;
     let mut first = true;
-    for caller in callers {
-        first = are_first(rt, given.as_mut_slice(), caller)? && first;
+    for indexes in given {
+        first = are_first(marks.as_mut_slice(), indexes) && first;
     }
-    Ok(first && given.iter().all(|index| *index))
+    Ok(first && marks.iter().all(|mark| *mark))
 }
 
-// Marks the indexes that a thread gives, and says whether none of them was marked before.
-fn are_first<R: Threads + Wait>(
-    rt: &R,
-    given: &mut [bool],
-    caller: JoinHandle<Result<Vec<u64>, Refused>>,
-) -> Result<bool, Fail> {
-    let indexes = caller.join(rt).map_err(fail)?;
+// Marks the indexes, and says whether none of them was marked before.
+fn are_first(marks: &mut [bool], indexes: Vec<u64>) -> bool {
     let mut first = true;
     for index in indexes {
-        first = is_first_time(given, index) && first;
+        first = is_first_time(marks, index) && first;
     }
-    Ok(first)
+    first
 }
 
 // Marks the index, and says whether it was not marked before.
-fn is_first_time(given: &mut [bool], index: u64) -> bool {
+fn is_first_time(marks: &mut [bool], index: u64) -> bool {
     let Ok(index) = usize::try_from(index) else {
         return false;
     };
-    match given.get_mut(index) {
-        Some(place) => {
-            let first = !*place;
-            *place = true;
+    match marks.get_mut(index) {
+        Some(mark) => {
+            let first = !*mark;
+            *mark = true;
             first
         }
         None => false,
     }
-}
-
-// Inserts rows of this part's own and then those of all, and gives the indexes of the accepted.
-fn indexes_of_part<J: Naming, R: Wait + Drop>(
-    rt: R,
-    alloc: Global,
-    mut session: Session<J>,
-    part: usize,
-) -> Result<Vec<u64>, Refused> {
-    let mut indexes = Vec::new(alloc);
-    for number in 0..OWN + SHARED {
-        let id = id_of(number, part);
-        match add(&rt, alloc, &mut session, id, part as i128) {
-            Ok(index) => indexes.push(index)?,
-            Err(Refused::Duplicate) => {}
-            Err(refused) => return Err(refused),
-        }
-    }
-    fence(&rt, alloc, &mut session)?;
-    Ok(indexes)
-}
-
-// The id of the row that the part inserts under this number.
-fn id_of(number: usize, part: usize) -> i128 {
-    let id = if number < OWN {
-        number.wrapping_add(part.wrapping_mul(OWN))
-    } else {
-        number.wrapping_mul(OWN)
-    };
-    id as i128
 }

@@ -1,68 +1,41 @@
 //! Domains that are in their turns at once, each in a thread of its own.
-use crate::asks::{fail, fence, next, write};
-use crate::notes::note;
-use crate::runs::{Scene, run};
+use crate::asks::{Running, fail};
+use crate::runs::{Scene, Setup, run};
 use book::law::Naming;
-use model::entry::Entry;
 use plan::domain::DomainId;
 use recipe::recipe::from_toml;
-use row::refused::Refused;
 use std::alloc::Global;
 use std::sync::atomic::{AtomicBool, AtomicUsize, Ordering};
 use std::sync::{Arc, Wait};
 use std::test::Fail;
 use std::thread::{self, Threads};
-use system::system::System;
 use workers::gate::Gate;
 
 /// Notes in two base shards and two stage shards.
-const NOTES: &str = "
-[[table]]
-name = \"notes\"
-shards = 2
-key = \"id\"
-columns = [\"id int\", \"author int\", \"body text\"]
-
-[stage]
-shards = 2
-left = \"notes\"
-left_key = \"author\"
-
-[[view]]
-name = \"by_author\"
-key = \"author\"
-shards = 1
-cap = 4
-";
+const NOTES: &str = r#"
+table = [
+    { name = "notes", shards = 2, key = "id", columns = ["id int", "author int", "body text"] },
+]
+stage = { shards = 2, left = "notes", left_key = "author" }
+view = [{ name = "by_author", key = "author", shards = 1, cap = 4 }]
+"#;
 
 /// Stories with the number of their votes, in two shards of everything.
-const VOTES: &str = "
-[[table]]
-name = \"stories\"
-shards = 2
-key = \"id\"
-columns = [\"id int\", \"author int\", \"title text\"]
-
-[[table]]
-name = \"votes\"
-shards = 2
-key = \"vid\"
-columns = [\"vid int\", \"story int\", \"note text\"]
+const VOTES: &str = r#"
+table = [
+    { name = "stories", shards = 2, key = "id", columns = ["id int", "author int", "title text"] },
+    { name = "votes", shards = 2, key = "vid", columns = ["vid int", "story int", "note text"] },
+]
+view = [{ name = "by_author", key = "author", shards = 2, cap = 4 }]
 
 [stage]
 shards = 2
-left = \"stories\"
-left_key = \"id\"
-right = \"votes\"
-right_key = \"story\"
-aggregate = \"count\"
-
-[[view]]
-name = \"by_author\"
-key = \"author\"
-shards = 2
-cap = 4
-";
+left = "stories"
+left_key = "id"
+right = "votes"
+right_key = "story"
+aggregate = "count"
+"#;
 
 /// How many domains the recipe of votes has.
 const DOMAINS: usize = 8;
@@ -196,28 +169,24 @@ fn do_meet<R: Threads + Wait + Copy + Drop + Send + 'static>(
         meeting,
         arrivals: Arc::try_clone(&arrivals)?,
     };
-    run(
-        rt,
-        alloc,
-        from_toml(alloc, recipe)?,
-        1,
+    let setup = Setup {
+        plan: from_toml(alloc, recipe)?,
+        sessions: 1,
         gate,
-        Scene::Lines(lines),
-    )?;
+        scene: Scene::Lines(lines),
+    };
+    run(rt, alloc, setup)?;
     Ok(arrivals.are(meeting.count()))
 }
 
 // Inserts the rows in a session, and fences.
-pub fn insert_lines<J: Naming + Send + Sync + 'static, R: Wait>(
-    rt: &R,
-    alloc: Global,
-    system: &mut System<J>,
-    lines: &[Line],
-) -> Result<(), Refused> {
-    let mut session = next(system, alloc)?;
+pub fn insert_lines<
+    J: Naming + Send + Sync + 'static,
+    R: Threads + Wait + Copy + Drop + Send + 'static,
+>(running: &mut Running<J, R>, lines: &[Line]) -> Result<(), Fail> {
+    let mut caller = running.next()?;
     for (table, id, other) in lines {
-        let entry = Entry::Insert(note(alloc, *id, *other)?);
-        write(rt, alloc, &mut session, table, entry)?;
+        caller.add(table, *id, *other).map_err(fail)?;
     }
-    fence(rt, alloc, &mut session)
+    caller.fence().map_err(fail)
 }

@@ -1,7 +1,7 @@
 //! What each test does with a running system, which is begun in one place.
 ghost use Rattle.std.specs.Prelude.{◌≡◌, ◌<◌};
 
-use crate::asks::fail;
+use crate::asks::{Running, fail};
 use crate::gates::{Line, insert_lines};
 use crate::{callers, reads};
 use book::book::Opened;
@@ -26,6 +26,15 @@ pub enum Scene {
     Lines(&'static [Line]),
 }
 
+/// How a system is started, and what is done with it.
+#[derive(Drop)]
+pub struct Setup<G> {
+    pub plan: Plan,
+    pub sessions: usize,
+    pub gate: G,
+    pub scene: Scene,
+}
+
 // Plays the scene with the built-in plan.
 pub fn run_notes<R: Threads + Wait + Copy + Drop + Send + 'static>(
     rt: R,
@@ -35,59 +44,61 @@ pub fn run_notes<R: Threads + Wait + Copy + Drop + Send + 'static>(
 ) -> Result<(), Fail>
     requires few { sessions < 17 }
 {
-    run(rt, alloc, Plan::built_in(alloc)?, sessions, OpenGate, scene)
+    let setup = Setup {
+        plan: Plan::built_in(alloc)?,
+        sessions,
+        gate: OpenGate,
+        scene,
+    };
+    run(rt, alloc, setup)
 }
 
 // Plays the scene with a book for so many sessions. What is answered wrong is a failure.
 pub fn run<
     R: Threads + Wait + Copy + Drop + Send + 'static,
     G: Gate + Send + Sync + Drop + 'static,
->(rt: R, alloc: Global, plan: Plan, sessions: usize, gate: G, scene: Scene) -> Result<(), Fail>
-    requires few { sessions < 17 }
+>(rt: R, alloc: Global, setup: Setup<G>) -> Result<(), Fail>
+    requires few { setup.sessions < 17 }
 {
-    let opened = Opened::new(alloc, &plan, sessions)?;
-    run_named::<Brand, R, G>(rt, alloc, opened, plan, sessions, gate, scene)
+    let opened = Opened::new(alloc, &setup.plan, setup.sessions)?;
+    run_named::<Brand, R, G>(rt, alloc, opened, setup)
 }
 
 fn run_named<
     J: Naming + Send + Sync + 'static,
     R: Threads + Wait + Copy + Drop + Send + 'static,
     G: Gate + Send + Sync + Drop + 'static,
->(
-    rt: R,
-    alloc: Global,
-    opened: Opened,
-    plan: Plan,
-    sessions: usize,
-    gate: G,
-    scene: Scene,
-) -> Result<(), Fail>
+>(rt: R, alloc: Global, opened: Opened, setup: Setup<G>) -> Result<(), Fail>
     requires book { opened.book ≡ J.book }
-    requires plan { (opened.plan ≡ J.plan) × (plan ≡ J.plan) }
-    requires sessions { (opened.sessions ≡ J.sessions) × (sessions ≡ J.sessions) }
-    requires few { sessions < 17 }
+    requires plan { (opened.plan ≡ J.plan) × (setup.plan ≡ J.plan) }
+    requires sessions { (opened.sessions ≡ J.sessions) × (setup.sessions ≡ J.sessions) }
+    requires few { setup.sessions < 17 }
 {
+    let Setup {
+        plan,
+        sessions,
+        gate,
+        scene,
+    } = setup;
     match System::<J>::start(rt, alloc, opened, plan, sessions, gate) {
-        Ok(system) => play(rt, alloc, system, scene),
+        Ok(system) => play(Running { rt, alloc, system }, scene),
         Err(refused) => Err(fail(refused)),
     }
 }
 
 // Plays a scene with a system, which stops in any case.
 fn play<J: Naming + Send + Sync + 'static, R: Threads + Wait + Copy + Drop + Send + 'static>(
-    rt: R,
-    alloc: Global,
-    mut system: System<J>,
+    mut running: Running<J, R>,
     scene: Scene,
 ) -> Result<(), Fail> {
     let played = match scene {
-        Scene::OneSession => callers::calls_of_one(&rt, alloc, &mut system),
-        Scene::FourSessions => callers::calls_of_four(rt, alloc, &mut system),
-        Scene::Meeting => callers::calls_of_two(&rt, alloc, &mut system),
-        Scene::ReadsBeside => reads::reads_beside(rt, alloc, &mut system),
-        Scene::Lines(lines) => insert_lines(&rt, alloc, &mut system, lines).map_err(fail),
-        Scene::Stopped => return callers::calls_of_stopped(&rt, alloc, system),
+        Scene::OneSession => callers::calls_of_one(&mut running),
+        Scene::FourSessions => callers::calls_of_four(&mut running),
+        Scene::Meeting => callers::calls_of_two(&mut running),
+        Scene::ReadsBeside => reads::reads_beside(&mut running),
+        Scene::Lines(lines) => insert_lines(&mut running, lines),
+        Scene::Stopped => return callers::calls_of_stopped(running),
     };
-    system.stop(&rt);
+    running.stop();
     played
 }

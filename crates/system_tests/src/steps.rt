@@ -1,5 +1,5 @@
 //! Calls of one session after the other, each with its answer.
-use crate::asks::{fail, fence, look, write, wrong};
+use crate::asks::{Caller, fail, wrong};
 use crate::notes::note;
 use book::law::Naming;
 use model::entry::Entry;
@@ -11,7 +11,7 @@ use row::refused::Refused;
 use row::row::Row;
 use row::value::Value;
 use sessions::reads::{Answer, Found};
-use sessions::session::{Accepted, Session};
+use sessions::session::Accepted;
 use std::alloc::{AllocError, Global};
 use std::sync::Wait;
 use std::test::Fail;
@@ -49,20 +49,44 @@ pub enum Told {
 /// A call and its answer.
 pub type Step = (Call, Result<Told, Refused>);
 
-// Makes the calls in order, each with its answer.
-pub fn make_all<J: Naming, R: Wait>(
-    rt: &R,
-    alloc: Global,
-    session: &mut Session<J>,
-    steps: &[Step],
-) -> Result<(), Fail> {
-    for (place, (call, wanted)) in steps.iter().enumerate() {
-        let told = answer(rt, alloc, session, *call);
-        if !is_wanted(told, *wanted)? {
-            return Err(wrong(place));
+impl<J: Naming, R: Wait> Caller<J, R> {
+    // Makes the calls in order, each with its answer.
+    pub fn make_all(&mut self, steps: &[Step]) -> Result<(), Fail> {
+        for (place, (call, wanted)) in steps.iter().enumerate() {
+            if !is_wanted(self.answer(*call), *wanted)? {
+                return Err(wrong(place));
+            }
+        }
+        Ok(())
+    }
+
+    pub fn answer(&mut self, call: Call) -> Result<Told, Refused> {
+        if let Some((table, entry)) = written_by(self.alloc, call)? {
+            return Ok(told_of(self.write(table, entry)?));
+        }
+        match call {
+            Call::Read(author) => self.tell_rows(VIEW, author, true),
+            Call::TryRead(view, author) => self.tell_rows(view, author, false),
+            Call::ReadText => {
+                let key = text(self.alloc)?;
+                self.look(VIEW, &key, true)?;
+                Ok(Told::Wrong)
+            }
+            _ => {
+                self.fence()?;
+                Ok(Told::Fenced)
+            }
         }
     }
-    Ok(())
+
+    fn tell_rows(&mut self, view: &str, author: i128, waits: bool) -> Result<Told, Refused> {
+        match self.look(view, &Value::Int(author), waits)? {
+            Found::Hit(answer) => {
+                Ok(compared(self.alloc, self.session.plan(), author, &answer)?)
+            }
+            Found::Miss => Ok(Told::Miss),
+        }
+    }
 }
 
 // A refusal that is not wanted goes out as a failure.
@@ -70,29 +94,6 @@ fn is_wanted(told: Result<Told, Refused>, wanted: Result<Told, Refused>) -> Resu
     match told {
         Err(refused) if told != wanted => Err(fail(refused)),
         _ => Ok(told == wanted),
-    }
-}
-
-pub fn answer<J: Naming, R: Wait>(
-    rt: &R,
-    alloc: Global,
-    session: &mut Session<J>,
-    call: Call,
-) -> Result<Told, Refused> {
-    if let Some((table, entry)) = written_by(alloc, call)? {
-        return Ok(told_of(write(rt, alloc, session, table, entry)?));
-    }
-    match call {
-        Call::Read(author) => tell_rows(rt, alloc, session, VIEW, author, true),
-        Call::TryRead(view, author) => tell_rows(rt, alloc, session, view, author, false),
-        Call::ReadText => {
-            look(rt, alloc, session, VIEW, &text(alloc)?, true)?;
-            Ok(Told::Wrong)
-        }
-        _ => {
-            fence(rt, alloc, session)?;
-            Ok(Told::Fenced)
-        }
     }
 }
 
@@ -106,20 +107,6 @@ fn written_by(alloc: Global, call: Call) -> Result<Option<(&'static str, Entry)>
         Call::DeleteText => Some((NOTES, Entry::Delete(text(alloc)?))),
         _ => None,
     })
-}
-
-fn tell_rows<J: Naming, R: Wait>(
-    rt: &R,
-    alloc: Global,
-    session: &mut Session<J>,
-    view: &str,
-    author: i128,
-    waits: bool,
-) -> Result<Told, Refused> {
-    match look(rt, alloc, session, view, &Value::Int(author), waits)? {
-        Found::Hit(answer) => Ok(compared(alloc, session.plan(), author, &answer)?),
-        Found::Miss => Ok(Told::Miss),
-    }
 }
 
 // No cell of a column of numbers.
