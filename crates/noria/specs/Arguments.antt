@@ -2,17 +2,13 @@
 use Rattle.std.specs.Prelude.{ℕ, Bool, false, ◌||◌, List, [], ◌∷◌, codes}
 use Rattle.std.specs.Str.{bytes_eq}
 
--- `WORD RECIPE FILE`
-abbrev pub is_word_and_two : List ℕ → List (List ℕ) → Bool
-is_word_and_two word [] = false
-is_word_and_two word (a ∷ []) = false
-is_word_and_two word (a ∷ b ∷ []) = false
-is_word_and_two word (a ∷ b ∷ c ∷ []) = bytes_eq a word
-is_word_and_two word (a ∷ b ∷ c ∷ d ∷ more) = false
-
 -- `run RECIPE SCRIPT`
 abbrev pub is_run : List (List ℕ) → Bool
-is_run = is_word_and_two (codes "run")
+is_run [] = false
+is_run (a ∷ []) = false
+is_run (a ∷ b ∷ []) = false
+is_run (a ∷ b ∷ c ∷ []) = bytes_eq a (codes "run")
+is_run (a ∷ b ∷ c ∷ d ∷ more) = false
 
 -- `race RECIPE SCRIPT..`, with at least one script
 abbrev pub is_race : List (List ℕ) → Bool
@@ -23,7 +19,11 @@ is_race (a ∷ b ∷ c ∷ more) = bytes_eq a (codes "race")
 
 -- `replay RECIPE SCHEDULE`
 abbrev pub is_replay : List (List ℕ) → Bool
-is_replay = is_word_and_two (codes "replay")
+is_replay [] = false
+is_replay (a ∷ []) = false
+is_replay (a ∷ b ∷ []) = false
+is_replay (a ∷ b ∷ c ∷ []) = bytes_eq a (codes "replay")
+is_replay (a ∷ b ∷ c ∷ d ∷ more) = false
 
 -- one of the forms
 abbrev pub is_form : List (List ℕ) → Bool

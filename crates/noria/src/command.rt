@@ -1,8 +1,11 @@
 //! The command line.
 ghost use Rattle.std.specs.Prelude.{◌≡◌, ◌≤◌, ◌==◌, is_some, map, not, string_bytes};
-ghost use Rattle.noria.specs.Arguments.{is_form};
+ghost use Rattle.noria.specs.Arguments.{is_form, is_race, is_replay, is_run};
 
-use crate::form::{Form, Work};
+use crate::fault::Fault;
+use crate::race::race_files;
+use crate::replay::replay_files;
+use crate::runner::run_files;
 use crate::texts::Texts;
 use std::alloc::Global;
 use std::io::Write;
@@ -29,11 +32,17 @@ pub fn command<R: Threads + Wait + Copy + Drop + Send + 'static, T: Texts, O: Wr
     ensures status { result ≤ 2 }
     ensures usage { (result == 2) ≡ not (is_form (map string_bytes words.now)) }
 {
-    let Some(form) = form_of(words) else {
+    let ran = if let Some((recipe, script)) = run_of(words) {
+        run_files(rt, alloc, recipe, script, texts, out)
+    } else if let Some((recipe, scripts)) = race_of(words) {
+        race_files(rt, alloc, recipe, scripts, texts, out)
+    } else if let Some((recipe, schedule)) = replay_of(words) {
+        replay_files(alloc, recipe, schedule, texts, out)
+    } else {
         let _ = writeln!(err, "{USAGE}");
         return 2;
     };
-    match form.run(rt, alloc, texts, out) {
+    match ran {
         Ok(()) => 0,
         Err(fault) => {
             let _ = writeln!(err, "{fault}");
@@ -42,20 +51,36 @@ pub fn command<R: Threads + Wait + Copy + Drop + Send + 'static, T: Texts, O: Wr
     }
 }
 
-// The form that the words are.
-fn form_of(words: &[String]) -> Option<Form<'_>>
-    ensures { is_some result ≡ is_form (map string_bytes words.now) }
+// The names of the recipe and the script, where the words are `run RECIPE SCRIPT`.
+fn run_of(words: &[String]) -> Option<(&str, &str)>
+    ensures { is_some result ≡ is_run (map string_bytes words.now) }
 {
-    let (recipe, work) = match words {
-        [run, recipe, script] if run.as_str() == "run" => (recipe, Work::Run(script.as_str())),
-        [race, recipe, _, ..] if race.as_str() == "race" => (recipe, Work::Race(&words[2..])),
-        [replay, recipe, schedule] if replay.as_str() == "replay" => {
-            (recipe, Work::Replay(schedule.as_str()))
+    match words {
+        [run, recipe, script] if run.as_str() == "run" => {
+            Some((recipe.as_str(), script.as_str()))
         }
-        _ => return None,
-    };
-    Some(Form {
-        recipe: recipe.as_str(),
-        work,
-    })
+        _ => None,
+    }
+}
+
+// The names of the recipe and the scripts, where the words are `race RECIPE SCRIPT..`.
+fn race_of(words: &[String]) -> Option<(&str, &[String])>
+    ensures { is_some result ≡ is_race (map string_bytes words.now) }
+{
+    match words {
+        [race, recipe, _, ..] if race.as_str() == "race" => Some((recipe.as_str(), &words[2..])),
+        _ => None,
+    }
+}
+
+// The names of the recipe and the schedule, where the words are `replay RECIPE SCHEDULE`.
+fn replay_of(words: &[String]) -> Option<(&str, &str)>
+    ensures { is_some result ≡ is_replay (map string_bytes words.now) }
+{
+    match words {
+        [replay, recipe, schedule] if replay.as_str() == "replay" => {
+            Some((recipe.as_str(), schedule.as_str()))
+        }
+        _ => None,
+    }
 }

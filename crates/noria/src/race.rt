@@ -1,6 +1,9 @@
 //! Races scripts: all of them at once, each in a session and a thread of its own.
 use crate::answers::{Answered, make, write_answer};
 use crate::fault::Fault;
+use crate::files::{calls_named, plan_named};
+use crate::play::{Play, start};
+use crate::texts::Texts;
 use book::law::Naming;
 use row::refused::Refused;
 use script::command::Command;
@@ -12,6 +15,27 @@ use std::sync::Wait;
 use std::thread::{self, JoinHandle, Threads};
 use system::system::System;
 
+/// Reads and checks the recipe and then the scripts of these names, starts the recipe's plan, and
+/// runs all scripts at once. It writes what each came to, then makes one fence in a session that
+/// has met all others, and the closing reads of all scripts in order. `NoSessionLeft` where there
+/// are more than fifteen scripts. All threads that it starts have ended.
+pub fn race_files<R: Threads + Wait + Copy + Drop + Send + 'static, T: Texts, O: Write>(
+    rt: R,
+    alloc: Global,
+    recipe: &str,
+    scripts: &[String],
+    texts: &mut T,
+    out: &mut O,
+) -> Result<(), Fault> {
+    let plan = plan_named(alloc, recipe, texts)?;
+    let mut all = Vec::new(alloc);
+    for script in scripts {
+        let calls = calls_named(alloc, script.as_str(), texts)?;
+        all.push(calls).map_err(|_| Refused::NoMemory)?;
+    }
+    start(rt, alloc, plan, Play::Race(all), out)
+}
+
 // What a script came to: its session, how many writes were accepted and calls refused, and its
 // closing reads, which were not made yet.
 #[derive(Drop)]
@@ -22,8 +46,7 @@ struct Raced<J: Naming> {
     closings: Vec<Command>,
 }
 
-// Runs all scripts at once, and writes what each came to. Then a session that has met all others makes
-// one fence, and the closing reads of all scripts in order.
+// Runs all scripts at once, and tells what each came to.
 pub fn race<
     J: Naming + Send + Sync + 'static,
     R: Threads + Wait + Copy + Drop + Send + 'static,

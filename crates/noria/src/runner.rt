@@ -1,13 +1,34 @@
 //! Runs a script: its calls one after the other, and the lines of output of each.
 use crate::answers::{make, write_answer};
 use crate::fault::Fault;
+use crate::files::{calls_named, plan_named};
+use crate::play::{Play, start};
+use crate::texts::Texts;
 use book::law::Naming;
 use row::refused::Refused;
 use script::script::Call;
 use std::alloc::Global;
 use std::io::{BufWriter, Write};
 use std::sync::Wait;
+use std::thread::Threads;
 use system::system::System;
+
+/// Reads and checks the recipe and then the script of these names, starts the recipe's plan, runs
+/// the script's calls in one session, and writes the answer of each. A refused call is a line too,
+/// and the script goes on. Where the output cannot be written, no further call is made. All threads
+/// that it starts have ended.
+pub fn run_files<R: Threads + Wait + Copy + Drop + Send + 'static, T: Texts, O: Write>(
+    rt: R,
+    alloc: Global,
+    recipe: &str,
+    script: &str,
+    texts: &mut T,
+    out: &mut O,
+) -> Result<(), Fault> {
+    let plan = plan_named(alloc, recipe, texts)?;
+    let calls = calls_named(alloc, script, texts)?;
+    start(rt, alloc, plan, Play::Run(calls), out)
+}
 
 // Makes the calls in a session, and writes the answer of each.
 pub fn run_calls<J: Naming + Send + Sync + 'static, R: Wait, O: Write>(
