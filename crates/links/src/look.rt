@@ -2,8 +2,8 @@
 use crossbeam_utils::Backoff;
 use std::sync::atomic::{AtomicBool, Ordering};
 
-/// Looks until the flag is up, or it is time to sleep: two rounds of a `Backoff`, which is as long as
-/// a channel of crossbeam looks. It takes no lock.
+/// Looks until the flag is up, or for as long as a channel of crossbeam looks: two rounds of a
+/// `Backoff`. It takes no lock.
 pub fn look(ready: &AtomicBool) {
     let backoff = Backoff::new();
     for _ in 0..LOOKS {
@@ -17,5 +17,5 @@ pub fn look(ready: &AtomicBool) {
     }
 }
 
-/// Twice as many as the rounds of a `Backoff`.
+/// Twice as many as a `Backoff` has steps.
 const LOOKS: u32 = 22;

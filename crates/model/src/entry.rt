@@ -42,7 +42,7 @@ impl Entry {
         }
     }
 
-    /// A second entry that is equal. Copies its row or key.
+    /// A second entry that is equal. A row is shared, a key copied.
     pub fn try_clone(&self, alloc: Global) -> Result<Entry, AllocError>
         ensures { IfOk result (λ e. change_of e ≡ change_of self.now) }
     {

@@ -109,7 +109,7 @@ fn find<F: Fronts>(
     Ok(Some(rows))
 }
 
-/// The same rows in memory of their own. Errors: memory only.
+/// The same rows, each shared. Errors: memory only.
 fn copies(alloc: Global, rows: &[Row]) -> Result<Vec<Row>, AllocError>
     ensures { IfOk result (λ out. out.items ≡ rows.now) }
 {
