@@ -46,7 +46,8 @@ struct Raced<J: Naming> {
     closings: Vec<Command>,
 }
 
-// Runs all scripts at once, and tells what each came to.
+// Runs all scripts at once, and writes what each came to. Then a session that has met all others makes
+// one fence, and the closing reads of all scripts in order.
 pub fn race<
     J: Naming + Send + Sync + 'static,
     R: Threads + Wait + Copy + Drop + Send + 'static,
@@ -58,15 +59,23 @@ pub fn race<
     scripts: Vec<Vec<Call>>,
     out: &mut O,
 ) -> Result<(), Fault> {
+    let raced = run_all(rt, alloc, system, scripts)?;
+    let mut session = system.session(alloc)?;
+    tell_buffered(&rt, alloc, &mut session, raced, out)
+}
+
+// Runs all scripts at once, and waits for all of them, also where one was not started.
+fn run_all<J: Naming + Send + Sync + 'static, R: Threads + Wait + Copy + Drop + Send + 'static>(
+    rt: R,
+    alloc: Global,
+    system: &mut System<J>,
+    scripts: Vec<Vec<Call>>,
+) -> Result<Vec<Raced<J>>, Fault> {
     let mut runners = Vec::with_capacity(alloc, scripts.len())?;
     let started = start_all(rt, alloc, system, scripts, &mut runners);
     let raced = join_all(&rt, alloc, runners);
     started?;
-    let session = system.session(alloc)?;
-    let mut out = BufWriter::new(alloc, out).map_err(|_| Refused::NoMemory)?;
-    tell(&rt, alloc, session, raced?, &mut out)?;
-    out.flush()
-        .map_err(|_| Fault::Refused(Refused::CannotWrite))
+    Ok(raced?)
 }
 
 // Starts a thread for each script, with a session of its own.
@@ -137,11 +146,25 @@ fn run_script<J: Naming, R: Wait>(
     Ok(raced)
 }
 
+// As `tell`, through a buffer that is flushed at the end.
+fn tell_buffered<J: Naming, R: Wait, O: Write>(
+    rt: &R,
+    alloc: Global,
+    session: &mut Session<J>,
+    raced: Vec<Raced<J>>,
+    out: &mut O,
+) -> Result<(), Fault> {
+    let mut out = BufWriter::new(alloc, out).map_err(|_| Refused::NoMemory)?;
+    tell(rt, alloc, session, raced, &mut out)?;
+    out.flush()
+        .map_err(|_| Fault::Refused(Refused::CannotWrite))
+}
+
 // Writes what each script came to, meets all sessions, and makes the closing fence and reads.
 fn tell<J: Naming, R: Wait, O: Write>(
     rt: &R,
     alloc: Global,
-    mut session: Session<J>,
+    session: &mut Session<J>,
     raced: Vec<Raced<J>>,
     out: &mut O,
 ) -> Result<(), Fault> {
@@ -154,11 +177,11 @@ fn tell<J: Naming, R: Wait, O: Write>(
         session.meet(&mut one.session);
         closings.push(one.closings).map_err(|_| Refused::NoMemory)?;
     }
-    let fenced = make(rt, alloc, &mut session, Command::Fence);
+    let fenced = make(rt, alloc, session, Command::Fence);
     write_answer(fenced, out).map_err(|_| Refused::CannotWrite)?;
     for commands in closings {
         for command in commands {
-            let answer = make(rt, alloc, &mut session, command);
+            let answer = make(rt, alloc, session, command);
             write_answer(answer, out).map_err(|_| Refused::CannotWrite)?;
         }
     }

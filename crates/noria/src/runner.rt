@@ -7,6 +7,7 @@ use crate::texts::Texts;
 use book::law::Naming;
 use row::refused::Refused;
 use script::script::Call;
+use sessions::session::Session;
 use std::alloc::Global;
 use std::io::{BufWriter, Write};
 use std::sync::Wait;
@@ -30,7 +31,7 @@ pub fn run_files<R: Threads + Wait + Copy + Drop + Send + 'static, T: Texts, O: 
     start(rt, alloc, plan, Play::Run(calls), out)
 }
 
-// Makes the calls in a session, and writes the answer of each.
+// Makes the calls in a session of its own, and writes the answer of each.
 pub fn run_calls<J: Naming + Send + Sync + 'static, R: Wait, O: Write>(
     rt: &R,
     alloc: Global,
@@ -40,10 +41,22 @@ pub fn run_calls<J: Naming + Send + Sync + 'static, R: Wait, O: Write>(
 ) -> Result<(), Fault> {
     let mut session = system.session(alloc)?;
     let mut out = BufWriter::new(alloc, out).map_err(|_| Refused::NoMemory)?;
-    for call in calls {
-        let answer = make(rt, alloc, &mut session, call.command);
-        write_answer(answer, &mut out).map_err(|_| Fault::Refused(Refused::CannotWrite))?;
-    }
+    answer_each(rt, alloc, &mut session, calls, &mut out)?;
     out.flush()
         .map_err(|_| Fault::Refused(Refused::CannotWrite))
+}
+
+// Makes the calls in the session, and writes the answer of each.
+fn answer_each<J: Naming, R: Wait, O: Write>(
+    rt: &R,
+    alloc: Global,
+    session: &mut Session<J>,
+    calls: Vec<Call>,
+    out: &mut O,
+) -> Result<(), Fault> {
+    for call in calls {
+        let answer = make(rt, alloc, session, call.command);
+        write_answer(answer, out).map_err(|_| Fault::Refused(Refused::CannotWrite))?;
+    }
+    Ok(())
 }

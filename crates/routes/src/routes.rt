@@ -25,25 +25,86 @@ use std::alloc::{AllocError, Global};
 use std::marker::Model;
 use std::sync::Wait;
 
-/// The plan, the book, and the ways between the threads: an inbox for each domain; for each session
-/// a mailbox for the replies to its writes, one for each view shard's acknowledgement of its
-/// fences, and a bell; and which domains have stopped. All of it is made at the start, so that a
-/// reply, an acknowledgement or a ring takes no memory.
+/// The plan, the book, and the ways between the threads: an inbox for each domain, what the
+/// sessions wait at, and which domains have begun and stopped. All of it is made at the start, so
+/// that a reply, an acknowledgement or a ring takes no memory.
 #[derive(Drop)]
 pub struct Routes<J: Naming> {
     plan: Plan,
     book: Book<J>,
     sources: Vec<usize>,
     readers: Vec<Reader>,
+    inboxes: Inboxes<J>,
+    mailboxes: Mailboxes<J>,
+    states: States,
+}
+
+// The inboxes of the base shards, the stage shards and the view shards.
+#[derive(Drop)]
+struct Inboxes<J: Naming> {
     bases: Vec<Inbox<BaseMail<J>>>,
     stages: Vec<Inbox<ToStage<Front<J>>>>,
     views: Vec<Inbox<ViewMail<J>>>,
+}
+
+// For each session a mailbox for the replies to its writes, one for each view shard's
+// acknowledgement of its fences, and a bell.
+#[derive(Drop)]
+struct Mailboxes<J: Naming> {
     replies: Vec<Mailbox<Reply<J>>>,
     acks: Vec<Mailbox<u64>>,
     bells: Vec<Bell>,
+}
+
+// Which domains have begun, which have stopped, and which view shards are cut off.
+#[derive(Drop)]
+struct States {
     started: Vec<Mailbox<()>>,
     stops: Stops,
     cut_off: Stops,
+}
+
+// How many domains of each kind, sources and sessions there are.
+#[derive(Clone, Copy)]
+struct Counts {
+    bases: usize,
+    stages: usize,
+    views: usize,
+    sources: usize,
+    sessions: usize,
+}
+
+impl<J: Naming> Inboxes<J> {
+    fn new(alloc: Global, of: Counts) -> Result<Inboxes<J>, AllocError> {
+        let edges = of.stages.saturating_add(of.sessions);
+        let domains = of.sources.saturating_add(of.views);
+        Ok(Inboxes {
+            bases: new_inboxes(alloc, of.bases, edges)?,
+            stages: new_inboxes(alloc, of.stages, domains.saturating_add(of.sessions))?,
+            views: new_inboxes(alloc, of.views, edges)?,
+        })
+    }
+}
+
+impl<J: Naming> Mailboxes<J> {
+    fn new(alloc: Global, of: Counts) -> Result<Mailboxes<J>, AllocError> {
+        Ok(Mailboxes {
+            replies: new_mailboxes(alloc, of.sessions)?,
+            acks: new_mailboxes(alloc, of.sessions.saturating_mul(of.views))?,
+            bells: new_bells(alloc, of.sessions)?,
+        })
+    }
+}
+
+impl States {
+    fn new(alloc: Global, of: Counts) -> Result<States, AllocError> {
+        let domains = of.bases.saturating_add(of.stages).saturating_add(of.views);
+        Ok(States {
+            started: new_mailboxes(alloc, domains)?,
+            stops: Stops::new(alloc, domains)?,
+            cut_off: Stops::new(alloc, of.views)?,
+        })
+    }
 }
 
 impl<J: Naming> Model for Routes<J> {
@@ -77,21 +138,17 @@ impl<J: Naming> Routes<J> {
     {
         let sources = places::sources(alloc, &plan)?;
         let readers = readers::readers(alloc, &plan)?;
-        let (bases, stages, views) = (book.bases(), plan.stages(), readers.len());
+        let of = Counts {
+            bases: book.bases(),
+            stages: plan.stages(),
+            views: readers.len(),
+            sources: sources.len(),
+            sessions,
+        };
         Ok(Routes {
-            bases: inboxes(alloc, bases, stages.saturating_add(sessions))?,
-            stages: inboxes(
-                alloc,
-                stages,
-                sources.len().saturating_add(views).saturating_add(sessions),
-            )?,
-            views: inboxes(alloc, views, stages.saturating_add(sessions))?,
-            replies: mailboxes(alloc, sessions)?,
-            acks: mailboxes(alloc, sessions.saturating_mul(views))?,
-            bells: bells(alloc, sessions)?,
-            started: mailboxes(alloc, bases.saturating_add(stages).saturating_add(views))?,
-            stops: Stops::new(alloc, bases.saturating_add(stages).saturating_add(views))?,
-            cut_off: Stops::new(alloc, views)?,
+            inboxes: Inboxes::new(alloc, of)?,
+            mailboxes: Mailboxes::new(alloc, of)?,
+            states: States::new(alloc, of)?,
             plan,
             book,
             sources,
@@ -128,18 +185,18 @@ impl<J: Naming> Routes<J> {
 
     /// The inbox of a base shard: an edge for each stage shard, then one for each session.
     pub fn base_inbox(&self, base: usize) -> Option<&Inbox<BaseMail<J>>> {
-        self.bases.get(base)
+        self.inboxes.bases.get(base)
     }
 
     /// The inbox of a stage shard: an edge for each source, then one for each view shard, then one
     /// for each session.
     pub fn stage_inbox(&self, stage: usize) -> Option<&Inbox<ToStage<Front<J>>>> {
-        self.stages.get(stage)
+        self.inboxes.stages.get(stage)
     }
 
     /// The inbox of a view shard: an edge for each stage shard, then one for each session.
     pub fn view_inbox(&self, reader: usize) -> Option<&Inbox<ViewMail<J>>> {
-        self.views.get(reader)
+        self.inboxes.views.get(reader)
     }
 
     /// Sends a session's message to the base shard that it is for. Refused with `Stopped` where the
@@ -147,8 +204,8 @@ impl<J: Naming> Routes<J> {
     pub fn to_base<R: Wait>(&self, rt: &R, session: usize, mail: BaseMail<J>) -> Result<(), Refused>
         ensures only { IfErr result (λ e. (e ≡ Refused.NoMemory) ⊎ (e ≡ Refused.Stopped)) }
     {
-        let edge = self.stages.len().saturating_add(session);
-        put(rt, self.bases.get(mail.base()), edge, mail)
+        let edge = self.inboxes.stages.len().saturating_add(session);
+        put(rt, self.inboxes.bases.get(mail.base()), edge, mail)
     }
 
     /// Sends a stage shard's request to a source, as `to_base`.
@@ -166,7 +223,7 @@ impl<J: Naming> Routes<J> {
             return Err(Refused::Stopped);
         };
         let mail = BaseMail::request(*base, stage, request);
-        put(rt, self.bases.get(*base), stage, mail)
+        put(rt, self.inboxes.bases.get(*base), stage, mail)
     }
 
     /// Sends a message to a stage shard, as `to_base`: a packet from a source, a request from a
@@ -180,13 +237,13 @@ impl<J: Naming> Routes<J> {
     ) -> Result<(), Refused>
         ensures only { IfErr result (λ e. (e ≡ Refused.NoMemory) ⊎ (e ≡ Refused.Stopped)) }
     {
-        let (sources, views) = (self.sources.len(), self.views.len());
+        let (sources, views) = (self.sources.len(), self.inboxes.views.len());
         let edge = match &message {
             ToStage::Packet { .. } => from,
             ToStage::Request(_) => sources.saturating_add(from),
             ToStage::Order(_) => sources.saturating_add(views).saturating_add(from),
         };
-        put(rt, self.stages.get(stage), edge, message)
+        put(rt, self.inboxes.stages.get(stage), edge, message)
     }
 
     /// Sends what comes to a view shard, as `to_base`: a packet from a stage shard, or what a
@@ -202,14 +259,18 @@ impl<J: Naming> Routes<J> {
     {
         let edge = match &mail {
             ViewMail::Packet { .. } => from,
-            ViewMail::Want(_) | ViewMail::Order { .. } => self.stages.len().saturating_add(from),
+            ViewMail::Want(_) | ViewMail::Order { .. } => self
+                .inboxes
+                .stages
+                .len()
+                .saturating_add(from),
         };
-        put(rt, self.views.get(reader), edge, mail)
+        put(rt, self.inboxes.views.get(reader), edge, mail)
     }
 
     /// Gives a session the reply to its write. It takes no memory.
     pub fn reply<R: Wait>(&self, rt: &R, reply: Reply<J>) {
-        if let Some(mailbox) = self.replies.get(reply.session()) {
+        if let Some(mailbox) = self.mailboxes.replies.get(reply.session()) {
             mailbox.send(rt, reply);
         }
     }
@@ -217,13 +278,17 @@ impl<J: Naming> Routes<J> {
     /// Waits for a reply to a session. A base shard replies to each write that was sent, also when
     /// it has stopped. `None` only where there is no such session.
     pub fn wait_reply<R: Wait>(&self, rt: &R, session: usize) -> Option<Reply<J>> {
-        self.replies.get(session)?.receive(rt)
+        self.mailboxes.replies.get(session)?.receive(rt)
     }
 
     /// Tells a fence's session that a view shard has its marker from every stage shard. It takes no
     /// memory.
     pub fn acknowledge<R: Wait>(&self, rt: &R, reader: usize, marker: Marker) {
-        if let Some(mailbox) = self.acks.get(self.ack_place(marker.session, reader)) {
+        if let Some(mailbox) = self
+            .mailboxes
+            .acks
+            .get(self.ack_place(marker.session, reader))
+        {
             mailbox.send(rt, marker.number);
         }
     }
@@ -232,26 +297,26 @@ impl<J: Naming> Routes<J> {
     /// call. `None` where there is none and one is no longer to come, since the view shard, a stage
     /// shard or a source has stopped.
     pub fn wait_ack<R: Wait>(&self, rt: &R, session: usize, reader: usize) -> Option<u64> {
-        let mailbox = self.acks.get(self.ack_place(session, reader))?;
-        mailbox.wait(rt, &self.cut_off, reader)
+        let mailbox = self.mailboxes.acks.get(self.ack_place(session, reader))?;
+        mailbox.wait(rt, &self.states.cut_off, reader)
     }
 
     fn ack_place(&self, session: usize, reader: usize) -> usize {
         session
-            .saturating_mul(self.views.len())
+            .saturating_mul(self.inboxes.views.len())
             .saturating_add(reader)
     }
 
     /// Wakes a session that waits under this number. It takes no memory.
     pub fn ring<R: Wait>(&self, rt: &R, session: usize, number: u64) {
-        if let Some(bell) = self.bells.get(session) {
+        if let Some(bell) = self.mailboxes.bells.get(session) {
             bell.ring(rt, number);
         }
     }
 
     /// Waits until a session's bell rings for this number, or something stops.
     pub fn wait_ring<R: Wait>(&self, rt: &R, session: usize, number: u64) -> Woken {
-        match self.bells.get(session) {
+        match self.mailboxes.bells.get(session) {
             Some(bell) => bell.wait(rt, number),
             None => Woken::Alarmed,
         }
@@ -259,7 +324,7 @@ impl<J: Naming> Routes<J> {
 
     /// Says that a domain's thread has begun, to who starts the store.
     pub fn begin<R: Wait>(&self, rt: &R, domain: Spot) {
-        if let Some(mailbox) = self.started.get(self.place(domain)) {
+        if let Some(mailbox) = self.states.started.get(self.place(domain)) {
             mailbox.send(rt, ());
         }
     }
@@ -267,40 +332,40 @@ impl<J: Naming> Routes<J> {
     /// Waits until a domain's thread has begun; false where it has stopped instead.
     pub fn has_begun<R: Wait>(&self, rt: &R, domain: Spot) -> bool {
         let place = self.place(domain);
-        match self.started.get(place) {
-            Some(mailbox) => mailbox.wait(rt, &self.stops, place).is_some(),
+        match self.states.started.get(place) {
+            Some(mailbox) => mailbox.wait(rt, &self.states.stops, place).is_some(),
             None => false,
         }
     }
 
     /// Says that a domain has stopped, and wakes who waits for it. What needs it is then refused.
     pub fn stop<R: Wait>(&self, rt: &R, domain: Spot) {
-        self.stops.mark(self.place(domain));
+        self.states.stops.mark(self.place(domain));
         self.cut_off(domain);
         self.alarm(rt);
     }
 
     /// Whether a domain has stopped. It waits for nobody and takes no memory.
     pub fn has_stopped(&self, domain: Spot) -> bool {
-        self.stops.has(self.place(domain))
+        self.states.stops.has(self.place(domain))
     }
 
     /// Whether a view shard, a stage shard or a source has stopped, so that nothing new comes to
     /// the view shard, or not all. It waits for nobody and takes no memory.
     pub fn is_cut_off(&self, reader: usize) -> bool {
-        self.cut_off.has(reader)
+        self.states.cut_off.has(reader)
     }
 
     /// Closes all inboxes: what was sent is still taken, and nothing more can be sent.
     pub fn close<R: Wait>(&self, rt: &R) {
-        close_all(rt, self.bases.as_slice());
-        close_all(rt, self.stages.as_slice());
-        close_all(rt, self.views.as_slice());
+        close_all(rt, self.inboxes.bases.as_slice());
+        close_all(rt, self.inboxes.stages.as_slice());
+        close_all(rt, self.inboxes.views.as_slice());
     }
 
     // The place of a domain's flag: the base shards come first, then the stage shards.
     fn place(&self, domain: Spot) -> usize {
-        let (bases, stages) = (self.bases.len(), self.stages.len());
+        let (bases, stages) = (self.inboxes.bases.len(), self.inboxes.stages.len());
         match domain {
             Spot::Base(base) => base,
             Spot::Stage(stage) => bases.saturating_add(stage),
@@ -311,11 +376,11 @@ impl<J: Naming> Routes<J> {
     // Marks the view shards to which nothing more comes through a domain.
     fn cut_off(&self, domain: Spot) {
         match domain {
-            Spot::View(reader) => self.cut_off.mark(reader),
+            Spot::View(reader) => self.states.cut_off.mark(reader),
             Spot::Base(base) if !self.sources.contains(&base) => (),
             Spot::Base(_) | Spot::Stage(_) => {
-                for reader in 0..self.views.len() {
-                    self.cut_off.mark(reader);
+                for reader in 0..self.inboxes.views.len() {
+                    self.states.cut_off.mark(reader);
                 }
             }
         }
@@ -323,10 +388,10 @@ impl<J: Naming> Routes<J> {
 
     // Wakes all who wait, to look what has stopped.
     fn alarm<R: Wait>(&self, rt: &R) {
-        alarm_all(rt, self.replies.as_slice());
-        alarm_all(rt, self.acks.as_slice());
-        alarm_all(rt, self.started.as_slice());
-        for bell in &self.bells {
+        alarm_all(rt, self.mailboxes.replies.as_slice());
+        alarm_all(rt, self.mailboxes.acks.as_slice());
+        alarm_all(rt, self.states.started.as_slice());
+        for bell in &self.mailboxes.bells {
             bell.alarm(rt);
         }
     }
@@ -363,7 +428,7 @@ fn alarm_all<T: Drop, R: Wait>(rt: &R, mailboxes: &[Mailbox<T>]) {
     }
 }
 
-fn inboxes<T: Drop>(
+fn new_inboxes<T: Drop>(
     alloc: Global,
     count: usize,
     edges: usize,
@@ -375,7 +440,7 @@ fn inboxes<T: Drop>(
     Ok(all)
 }
 
-fn mailboxes<T: Drop>(alloc: Global, count: usize) -> Result<Vec<Mailbox<T>>, AllocError> {
+fn new_mailboxes<T: Drop>(alloc: Global, count: usize) -> Result<Vec<Mailbox<T>>, AllocError> {
     let mut all = Vec::with_capacity(alloc, count)?;
     for _mailbox in 0..count {
         all.push(Mailbox::new())?;
@@ -383,7 +448,7 @@ fn mailboxes<T: Drop>(alloc: Global, count: usize) -> Result<Vec<Mailbox<T>>, Al
     Ok(all)
 }
 
-fn bells(alloc: Global, count: usize) -> Result<Vec<Bell>, AllocError> {
+fn new_bells(alloc: Global, count: usize) -> Result<Vec<Bell>, AllocError> {
     let mut all = Vec::with_capacity(alloc, count)?;
     for _bell in 0..count {
         all.push(Bell::new())?;

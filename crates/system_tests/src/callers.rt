@@ -107,10 +107,17 @@ pub fn calls_of_two<
 >(running: &mut Running<J, R>) -> Result<(), Fail> {
     let mut first = running.next()?;
     let mut second = running.next()?;
+    meet_in_turn(&mut first, &mut second)
+}
+
+fn meet_in_turn<J: Naming, R: Wait>(
+    first: &mut Caller<J, R>,
+    second: &mut Caller<J, R>,
+) -> Result<(), Fail> {
     first.make_all(OF_FIRST)?;
-    first.meet(&mut second);
+    first.meet(second);
     second.make_all(OF_SECOND)?;
-    second.meet(&mut first);
+    second.meet(first);
     first.make_all(AFTER_MEETING)
 }
 

@@ -13,6 +13,7 @@ use base_domain::base_domain::BaseDomain;
 use book::front::Front;
 use book::law::Naming;
 use book::log::Log;
+use links::inbox::Inbox;
 use model::places::place_of;
 use packet::outbox::Outbox;
 use plan::domain::DomainId;
@@ -39,30 +40,56 @@ pub fn base_work<J: Naming, R: Wait, G: Gate>(
     requires empty { log.len ≡ 0 }
     requires sessions { sessions ≡ J.sessions }
 {
-    let base = log.base();
-    let stages = routes.plan().stages();
-    let Some(inbox) = routes.base_inbox(base) else {
-        return routes.stop(rt, Spot::Base(base));
-    };
-    let (Ok(mut domain), Ok(mut out), Ok(mut turns)) = (
-        fresh_base(alloc, routes.plan(), log, sessions),
-        Outbox::new(alloc, stages),
-        Turns::new(alloc, inbox.edges()),
-    ) else {
-        return routes.stop(rt, Spot::Base(base));
-    };
+    let worker = Worker::new(rt, alloc, routes, log.base());
+    if work(&worker, log, sessions, gate).is_err() {
+        routes.stop(rt, Spot::Base(worker.place));
+    }
+}
+
+// Makes the domain and serves its inbox. Errors: `UnknownPlace` where there is no such base shard,
+// else `NoMemory`; the domain has then made no turn.
+fn work<J: Naming, R: Wait, G: Gate>(
+    worker: &Worker<J, R>,
+    log: Log<J>,
+    sessions: usize,
+    gate: &G,
+) -> Result<(), Refused>
+    requires base { log.base ≡ worker.now.place }
+    requires empty { log.len ≡ 0 }
+    requires sessions { sessions ≡ J.sessions }
+{
+    let (alloc, routes, base) = (worker.alloc, worker.routes, worker.place);
+    let inbox = routes.base_inbox(base).ok_or(Refused::UnknownPlace)?;
+    let mut domain = fresh_base(alloc, routes.plan(), log, sessions)?;
+    serve(worker, inbox, &mut domain, gate)
+}
+
+// Takes one message after the other, until the inbox is closed and empty. Errors: `NoMemory`,
+// before the first turn.
+fn serve<J: Naming, R: Wait, G: Gate>(
+    worker: &Worker<J, R>,
+    inbox: &Inbox<BaseMail<J>>,
+    domain: &mut BaseDomain<Front<J>>,
+    gate: &G,
+) -> Result<(), Refused>
+    requires base { domain.old.front.base ≡ worker.now.place }
+    requires sessions { length domain.old.next ≡ J.sessions }
+{
+    let (rt, routes, base) = (worker.rt, worker.routes, worker.place);
+    let mut out = Outbox::new(worker.alloc, routes.plan().stages())?;
+    let mut turns = Turns::new(worker.alloc, inbox.edges())?;
     routes.begin(rt, Spot::Base(base));
     let id = id_of(routes.plan(), base);
-    let worker = Worker::new(rt, alloc, routes, base);
     for _ in rt.forever() {
         let number = turns.turn();
         let Some(mail) = turns.next(rt, inbox) else {
             break;
         };
         gate.before(id, number);
-        turn(&worker, &mut domain, mail, &mut out);
+        turn(worker, domain, mail, &mut out);
         gate.after(id, number);
     }
+    Ok(())
 }
 
 // The name of a base shard.

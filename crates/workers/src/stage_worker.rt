@@ -12,6 +12,7 @@ use crate::worker::{Worker, send_each};
 use book::front::Front;
 use book::law::Naming;
 use book::part::Part;
+use links::inbox::Inbox;
 use packet::mode::Mode;
 use plan::domain::DomainId;
 use routes::mail::ViewMail;
@@ -37,27 +38,53 @@ pub fn stage_work<J: Naming, R: Wait, G: Gate>(
 )
     requires shard { shard < J.plan.stages }
 {
-    let Some(inbox) = routes.stage_inbox(shard) else {
-        return routes.stop(rt, Spot::Stage(shard));
-    };
-    let (Ok(mut domain), Ok(mut out), Ok(mut turns)) = (
-        fresh_stage(alloc, routes, part, shard),
-        StageOutbox::new(alloc, routes.readers().len(), routes.sources().len()),
-        Turns::new(alloc, inbox.edges()),
-    ) else {
-        return routes.stop(rt, Spot::Stage(shard));
-    };
-    routes.begin(rt, Spot::Stage(shard));
     let worker = Worker::new(rt, alloc, routes, shard);
+    if work(&worker, part, gate).is_err() {
+        routes.stop(rt, Spot::Stage(shard));
+    }
+}
+
+// Makes the domain and serves its inbox. Errors: `UnknownPlace` where there is no such stage shard,
+// else `NoMemory`; the domain has then made no turn.
+fn work<J: Naming, R: Wait, G: Gate>(
+    worker: &Worker<J, R>,
+    part: &Part<J>,
+    gate: &G,
+) -> Result<(), Refused>
+    requires shard { worker.now.place < J.plan.stages }
+{
+    let (alloc, routes, shard) = (worker.alloc, worker.routes, worker.place);
+    let inbox = routes.stage_inbox(shard).ok_or(Refused::UnknownPlace)?;
+    let mut domain = fresh_stage(alloc, routes, part, shard)?;
+    serve(worker, inbox, &mut domain, gate)
+}
+
+// Takes one message after the other, until the inbox is closed and empty. Errors: `NoMemory`,
+// before the first turn.
+fn serve<J: Naming, R: Wait, G: Gate>(
+    worker: &Worker<J, R>,
+    inbox: &Inbox<ToStage<Front<J>>>,
+    domain: &mut StageDomain<Front<J>>,
+    gate: &G,
+) -> Result<(), Refused>
+    requires shard { worker.now.place < J.plan.stages }
+    requires plan { domain.old.mode ≡ Running → domain.old.plan ≡ J.plan }
+{
+    let (rt, routes, shard) = (worker.rt, worker.routes, worker.place);
+    let (readers, sources) = (routes.readers().len(), routes.sources().len());
+    let mut out = StageOutbox::new(worker.alloc, readers, sources)?;
+    let mut turns = Turns::new(worker.alloc, inbox.edges())?;
+    routes.begin(rt, Spot::Stage(shard));
     for _ in rt.forever() {
         let number = turns.turn();
         let Some(message) = turns.next(rt, inbox) else {
             break;
         };
         gate.before(DomainId::Stage(shard), number);
-        turn(&worker, &mut domain, message, &mut out);
+        turn(worker, domain, message, &mut out);
         gate.after(DomainId::Stage(shard), number);
     }
+    Ok(())
 }
 
 // Takes one message, where the domain runs, and sends what it puts out. Where a packet or a request

@@ -15,6 +15,7 @@ use crate::worker::{Worker, send_each};
 use book::front::Front;
 use book::law::Naming;
 use book::part::Part;
+use links::inbox::Inbox;
 use packet::mode::Mode;
 use packet::reader::Reader;
 use plan::domain::DomainId;
@@ -47,40 +48,52 @@ pub fn view_work<J: Naming, R: Wait + Drop, G: Gate>(
         ≡ first_of J.plan r.view r.shard) }
     requires idle { pending writer ≡ [] }
 {
-    work(rt, alloc, routes, part, reader, &mut writer, gate);
+    let worker = Worker::new(rt, alloc, routes, reader);
+    if work(&worker, part, &mut writer, gate).is_err() {
+        routes.stop(rt, Spot::View(reader));
+    }
     mem::forget(writer);
 }
 
-// All of it but for the end of the writer.
+// Makes the domain and serves its inbox. Errors: `UnknownPlace` where there is no such view shard,
+// else `NoMemory`; the domain has then made no turn.
 fn work<J: Naming, R: Wait + Drop, G: Gate>(
-    rt: &R,
-    alloc: Global,
-    routes: &Routes<J>,
+    worker: &Worker<J, R>,
     part: &Part<J>,
-    reader: usize,
     writer: &mut ShownWriter<J, R>,
     gate: &G,
-)
-    requires first { IfSome (slice_get (readers J.plan) reader) (λ r. shown writer.old
+) -> Result<(), Refused>
+    requires first { IfSome (slice_get (readers J.plan) worker.now.place) (λ r. shown writer.old
         ≡ first_of J.plan r.view r.shard) }
     requires idle { pending writer.old ≡ [] }
 {
-    let plan = routes.plan();
-    let (Some(own), Some(inbox)) = (reader_at(routes, reader), routes.view_inbox(reader)) else {
-        return routes.stop(rt, Spot::View(reader));
-    };
-    let sessions = inbox.edges().saturating_sub(plan.stages());
-    let (Ok(mut domain), Ok(mut out), Ok(mut waits), Ok(mut turns)) = (
-        fresh_view(alloc, routes, part, own.view, own.shard),
-        ViewOutbox::new(alloc, plan.stages()),
-        Waits::new(alloc, sessions),
-        Turns::new(alloc, inbox.edges()),
-    ) else {
-        return routes.stop(rt, Spot::View(reader));
-    };
+    let (alloc, routes, reader) = (worker.alloc, worker.routes, worker.place);
+    let own = reader_at(routes, reader).ok_or(Refused::UnknownPlace)?;
+    let inbox = routes.view_inbox(reader).ok_or(Refused::UnknownPlace)?;
+    let mut domain = fresh_view(alloc, routes, part, own.view, own.shard)?;
+    serve(worker, inbox, &mut domain, writer, gate)
+}
+
+// Takes one message after the other, until the inbox is closed and empty. Errors: `NoMemory`,
+// before the first turn.
+fn serve<J: Naming, R: Wait + Drop, G: Gate>(
+    worker: &Worker<J, R>,
+    inbox: &Inbox<ViewMail<J>>,
+    domain: &mut ViewDomain<Front<J>>,
+    writer: &mut ShownWriter<J, R>,
+    gate: &G,
+) -> Result<(), Refused>
+    requires plan { domain.old.mode ≡ Running → domain.old.plan ≡ J.plan }
+    requires shows { domain.old.mode ≡ Running → Shows domain.old (shown writer.old) }
+    requires idle { domain.old.mode ≡ Running → pending writer.old ≡ [] }
+{
+    let (rt, routes, reader) = (worker.rt, worker.routes, worker.place);
+    let stages = routes.plan().stages();
+    let mut out = ViewOutbox::new(worker.alloc, stages)?;
+    let mut waits = Waits::new(worker.alloc, inbox.edges().saturating_sub(stages))?;
+    let mut turns = Turns::new(worker.alloc, inbox.edges())?;
     routes.begin(rt, Spot::View(reader));
-    let worker = Worker::new(rt, alloc, routes, reader);
-    let id = DomainId::View(own.view, own.shard);
+    let id = DomainId::View(domain.view(), domain.shard());
     for _ in rt.forever() {
         let number = turns.turn();
         let Some(mail) = turns.next(rt, inbox) else {
@@ -88,12 +101,13 @@ fn work<J: Naming, R: Wait + Drop, G: Gate>(
         };
         gate.before(id, number);
         let message = message_of(mail, &mut waits);
-        turn(&worker, &mut domain, writer, message, &mut out);
+        turn(worker, domain, writer, message, &mut out);
         if domain.mode() == Mode::Running {
-            waits.ring(rt, routes, &domain);
+            waits.ring(rt, routes, domain);
         }
         gate.after(id, number);
     }
+    Ok(())
 }
 
 // The view shard at a place.

@@ -1,7 +1,7 @@
 use Rattle.std.proofs.Common.{◌≡◌, length}
 use Rattle.packet.specs.declared.mode.Mode.TheVariants.{Running}
 use Rattle.stage_steps.specs.Outboxes.{AreEdges, IsSilent}
-use Rattle.workers.proofs.stage_worker.stage_work.Given as goal
+use Rattle.workers.proofs.stage_worker.serve.Given as goal
 
 abbrev pub invariant-loop : goal.invariant-loop
 invariant-loop g l = record {

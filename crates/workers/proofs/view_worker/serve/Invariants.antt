@@ -3,7 +3,7 @@ use Rattle.packet.specs.declared.mode.Mode.TheVariants.{Running}
 use Rattle.shown.specs.Boards.{pending, shown}
 use Rattle.view_domain.specs.Outboxes.{IsClear}
 use Rattle.workers.specs.ViewTurns.{Shows}
-use Rattle.workers.proofs.view_worker.work.Given as goal
+use Rattle.workers.proofs.view_worker.serve.Given as goal
 
 abbrev pub invariant-loop : goal.invariant-loop
 invariant-loop g l = record {
