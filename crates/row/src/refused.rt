@@ -3,46 +3,47 @@ ghost use Rattle.std.specs.Prelude.{◌≡◌};
 ghost use Rattle.row.specs.{Refusals.number_of, Refusals.name_of, declared.refused.Refused.TheVariants.NoMemory};
 
 use std::alloc::AllocError;
+use std::fmt;
 use thiserror::Error;
 
 /// Why a call was refused. What a refusal leaves is said at the call that gives it.
 #[derive(Clone, Copy, PartialEq, Eq, Debug, Error)]
 pub enum Refused {
-    #[error("no memory")]
+    /// No memory.
     NoMemory,
-    #[error("there is no such table")]
+    /// There is no such table.
     UnknownTable,
-    #[error("the row does not fit its table")]
+    /// The row does not fit its table.
     BadRow,
-    #[error("a row with this key is there already")]
+    /// A row with this key is there already.
     Duplicate,
-    #[error("there is no row with this key")]
+    /// There is no row with this key.
     Absent,
-    #[error("the log has its limit of entries")]
+    /// The log has its limit of entries.
     LogFull,
-    #[error("there is no such view")]
+    /// There is no such view.
     UnknownView,
-    #[error("the key is no cell of the key column")]
+    /// The key is no cell of the key column.
     BadKey,
-    #[error("the answer was missing at each try")]
+    /// The answer was missing at each try.
     Busy,
-    #[error("a part that the call needs has stopped")]
+    /// A part that the call needs has stopped.
     Stopped,
-    #[error("the session was used elsewhere, or its call numbers are spent")]
+    /// The session was used elsewhere, or its call numbers are spent.
     Stolen,
-    #[error("no session is left")]
+    /// No session is left.
     NoSessionLeft,
-    #[error("less is shown of a source than the session has looked at")]
+    /// Less is shown of a source than the session has looked at.
     Behind,
-    #[error("a packet came out of turn")]
+    /// A packet came out of turn.
     Gap,
-    #[error("the plan has no such place")]
+    /// The plan has no such place.
     UnknownPlace,
-    #[error("the line of the script is of no known form")]
+    /// The line of the script is of no known form.
     BadScript,
-    #[error("the file cannot be read")]
+    /// The file cannot be read.
     CannotRead,
-    #[error("the output cannot be written")]
+    /// The output cannot be written.
     CannotWrite,
 }
 
@@ -97,6 +98,12 @@ impl Refused {
             Refused::CannotRead => "CannotRead",
             Refused::CannotWrite => "CannotWrite",
         }
+    }
+}
+
+impl fmt::Display for Refused {
+    fn fmt<W: fmt::Write>(&self, f: &mut fmt::Formatter<W>) -> fmt::Result {
+        f.write_str(self.name())
     }
 }
 
