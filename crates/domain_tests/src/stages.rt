@@ -33,10 +33,22 @@ enum Told {
 /// What a packet carries: how many changes, how many rows in a piece, and whether a marker.
 type Carried = (usize, Option<usize>, bool);
 
-const MESSAGES: &[(Told, Carried)] = &[
-    (Told::Note, (1, None, false)),
-    (Told::Marker, (0, None, true)),
-    (Told::Ask, (0, Some(0), false)),
+/// What is done with the stage shard without a note: it is told something, and puts a packet out or
+/// none, it is stopped, or it finds a gap.
+#[derive(Clone, Copy)]
+enum Scene {
+    Tells(Told, Option<Carried>),
+    Stops,
+    FindsAGap,
+}
+
+const SCENES: &[Scene] = &[
+    Scene::Tells(Told::Note, Some((1, None, false))),
+    Scene::Tells(Told::Marker, Some((0, None, true))),
+    Scene::Tells(Told::Ask, Some((0, Some(0), false))),
+    Scene::Tells(Told::Order, None),
+    Scene::Stops,
+    Scene::FindsAGap,
 ];
 
 // The stage shard without a note.
@@ -109,6 +121,7 @@ fn put_out<'p, F: Fronts>(
 ) -> Result<Option<Carried>, Refused>
     requires plan { domain.old.plan ≡ notes_plan }
     requires meets { Meets F.are_one domain.old (message_of message) }
+    ensures { domain.new.plan ≡ notes_plan }
 {
     let mut out = StageOutbox::new(alloc, 1, 1)?;
     domain.receive(alloc, message, &mut out)?;
@@ -116,21 +129,17 @@ fn put_out<'p, F: Fronts>(
 }
 
 // What it is made to put out by what it is told first.
-fn tells<'p, F: Fronts>(
+fn tell<'p, F: Fronts>(
     alloc: Global,
     notes: &Notes<'p, F>,
     told: Told,
-) -> Result<Option<Carried>, Refused> {
+    domain: &mut StageDomain<'p, F>,
+) -> Result<Option<Carried>, Refused>
+    requires { IsFirstStage domain.old }
+    ensures { domain.new.plan ≡ notes_plan }
+{
     let message = message(alloc, notes, told)?;
-    let mut domain = first_stage(alloc, notes)?;
-    put_out(alloc, &mut domain, message)
-}
-
-// Whether it stops, and then refuses a request.
-fn stops<'p, F: Fronts>(alloc: Global, notes: &Notes<'p, F>) -> Result<bool, Refused> {
-    let mut domain = first_stage(alloc, notes)?;
-    domain.stop();
-    has_stopped(alloc, &mut domain)
+    put_out(alloc, domain, message)
 }
 
 // Whether it has stopped, and refuses a request.
@@ -149,24 +158,54 @@ fn has_stopped<'p, F: Fronts>(
 }
 
 // Whether a packet behind the first note, which has not come, is a gap, and stops it.
-fn finds_a_gap<'p, F: Fronts>(alloc: Global, notes: &Notes<'p, F>) -> Result<bool, Refused> {
-    let message = message(alloc, notes, Told::LaterMarker)?;
-    let mut domain = first_stage(alloc, notes)?;
-    let mut out = StageOutbox::new(alloc, 1, 1)?;
-    match domain.receive(alloc, message, &mut out) {
-        Err(Refused::Gap) => has_stopped(alloc, &mut domain),
+fn finds_a_gap<'p, F: Fronts>(
+    alloc: Global,
+    notes: &Notes<'p, F>,
+    domain: &mut StageDomain<'p, F>,
+) -> Result<bool, Refused>
+    requires { IsFirstStage domain.old }
+{
+    match tell(alloc, notes, Told::LaterMarker, domain) {
+        Err(Refused::Gap) => has_stopped(alloc, domain),
         Err(refused) => Err(refused),
-        Ok(()) => Ok(false),
+        Ok(_) => Ok(false),
     }
+}
+
+// Whether what is done with it ends as it is to.
+fn passes<'p, F: Fronts>(
+    alloc: Global,
+    notes: &Notes<'p, F>,
+    scene: Scene,
+    domain: &mut StageDomain<'p, F>,
+) -> Result<bool, Refused>
+    requires { IsFirstStage domain.old }
+{
+    match scene {
+        Scene::Tells(told, carried) => Ok(tell(alloc, notes, told, domain)? == carried),
+        Scene::Stops => {
+            domain.stop();
+            has_stopped(alloc, domain)
+        }
+        Scene::FindsAGap => finds_a_gap(alloc, notes, domain),
+    }
+}
+
+// Whether it ends so with a stage shard of its own.
+fn passes_alone<'p, F: Fronts>(
+    alloc: Global,
+    notes: &Notes<'p, F>,
+    scene: Scene,
+) -> Result<bool, Refused> {
+    passes(alloc, notes, scene, &mut first_stage(alloc, notes)?)
 }
 
 // Whether each message is taken as it is to be.
 pub fn takes_each<'p, F: Fronts>(alloc: Global, notes: &Notes<'p, F>) -> Result<bool, Refused> {
-    for (told, carried) in MESSAGES {
-        if tells(alloc, notes, *told)? != Some(*carried) {
+    for scene in SCENES {
+        if !passes_alone(alloc, notes, *scene)? {
             return Ok(false);
         }
     }
-    let evicts = tells(alloc, notes, Told::Order)?.is_some();
-    Ok(!evicts && stops(alloc, notes)? && finds_a_gap(alloc, notes)?)
+    Ok(true)
 }

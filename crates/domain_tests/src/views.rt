@@ -19,8 +19,19 @@ enum Told {
     Order,
 }
 
-/// What is told, how many requests are sent for it, and whether the shown copy is told of it.
-const MESSAGES: &[(Told, usize, bool)] = &[(Told::Want, 1, true), (Told::Order, 0, false)];
+/// What is done with the view shard without a note: it is told something, sends so many requests and
+/// tells the shown copy or not; or a key is wanted and its piece comes.
+#[derive(Clone, Copy)]
+enum Scene {
+    Tells(Told, usize, bool),
+    Fills,
+}
+
+const SCENES: &[Scene] = &[
+    Scene::Tells(Told::Want, 1, true),
+    Scene::Tells(Told::Order, 0, false),
+    Scene::Fills,
+];
 
 // The view shard without a note.
 fn first_view<'p, F: Fronts>(
@@ -59,48 +70,71 @@ fn put_out<'p, F: Fronts>(
     Ok((out.take_requests(alloc, 0).len(), told))
 }
 
-// What it is made to put out by what it is told first.
-fn tells<'p, F: Fronts>(
+// Wants the key, for which the piece then is.
+fn want<'p, F: Fronts>(
     alloc: Global,
     notes: &Notes<'p, F>,
-    told: Told,
-) -> Result<(usize, bool), Refused> {
-    let mut domain = first_view(alloc, notes)?;
-    put_out(alloc, &mut domain, message(told))
-}
-
-// The view shard once the key is wanted, for which the piece then is.
-fn waiting_view<'p, F: Fronts>(
-    alloc: Global,
-    notes: &Notes<'p, F>,
-) -> Result<ViewDomain<'p, F>, Refused>
-    ensures plan { IfOk result (λ d. d.plan ≡ notes_plan) }
-    ensures from { IfOk result (λ d. IsFrom F.are_one d 0 no_piece) }
+    domain: &mut ViewDomain<'p, F>,
+) -> Result<(), Refused>
+    requires { domain.old ≡ first_view }
+    ensures plan { IfOk result (λ _. domain.new.plan ≡ notes_plan) }
+    ensures from { IfOk result (λ _. IsFrom F.are_one domain.new 0 no_piece) }
 {
-    let mut domain = first_view(alloc, notes)?;
     let mut out = ViewOutbox::new(alloc, 1)?;
     domain.receive(alloc, ToView::Want { key: AUTHOR }, &mut out)?;
     notes.are_one();
-    Ok(domain)
+    Ok(())
 }
 
 // Whether the piece of the key that is wanted fills it, with no rows.
-fn fills<'p, F: Fronts>(alloc: Global, notes: &Notes<'p, F>) -> Result<bool, Refused> {
+fn fills<'p, F: Fronts>(
+    alloc: Global,
+    notes: &Notes<'p, F>,
+    domain: &mut ViewDomain<'p, F>,
+) -> Result<bool, Refused>
+    requires { domain.old ≡ first_view }
+{
+    want(alloc, notes, domain)?;
     let packet = notes.piece(alloc)?;
-    let mut domain = waiting_view(alloc, notes)?;
-    let told = put_out(alloc, &mut domain, ToView::Packet { stage: 0, packet })?;
+    let told = put_out(alloc, domain, ToView::Packet { stage: 0, packet })?;
     match domain.get(&AUTHOR) {
         Some(rows) => Ok(told == (0, true) && rows.rows().is_empty()),
         None => Ok(false),
     }
 }
 
+// Whether what is done with it ends as it is to.
+fn passes<'p, F: Fronts>(
+    alloc: Global,
+    notes: &Notes<'p, F>,
+    scene: Scene,
+    domain: &mut ViewDomain<'p, F>,
+) -> Result<bool, Refused>
+    requires { domain.old ≡ first_view }
+{
+    match scene {
+        Scene::Tells(told, requests, shown) => {
+            Ok(put_out(alloc, domain, message(told))? == (requests, shown))
+        }
+        Scene::Fills => fills(alloc, notes, domain),
+    }
+}
+
+// Whether it ends so with a view shard of its own.
+fn passes_alone<'p, F: Fronts>(
+    alloc: Global,
+    notes: &Notes<'p, F>,
+    scene: Scene,
+) -> Result<bool, Refused> {
+    passes(alloc, notes, scene, &mut first_view(alloc, notes)?)
+}
+
 // Whether each message is taken as it is to be.
 pub fn takes_each<'p, F: Fronts>(alloc: Global, notes: &Notes<'p, F>) -> Result<bool, Refused> {
-    for (told, requests, shown) in MESSAGES {
-        if tells(alloc, notes, *told)? != (*requests, *shown) {
+    for scene in SCENES {
+        if !passes_alone(alloc, notes, *scene)? {
             return Ok(false);
         }
     }
-    fills(alloc, notes)
+    Ok(true)
 }
