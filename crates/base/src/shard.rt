@@ -21,7 +21,6 @@ use std::mem;
 
 /// The rows that a log leaves in one shard of one table, each found by its key in constant
 /// (expected) time, and by the columns of its indexes.
-#[derive(Drop)]
 pub struct BaseShard {
     key_column: usize,
     limit: u64,
@@ -29,6 +28,20 @@ pub struct BaseShard {
     rows: HashMap<Value, Row>,
     ready: Option<Value>,
     indexes: Vec<Index>,
+}
+
+// What holds one drops it by this call, and need not know its parts.
+impl Drop for BaseShard {
+    fn drop(self) {
+        let BaseShard {
+            key_column: _,
+            limit: _,
+            entry_count: _,
+            rows: _,
+            ready: _,
+            indexes: _,
+        } = self;
+    }
 }
 
 impl Model for BaseShard {

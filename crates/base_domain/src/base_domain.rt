@@ -26,7 +26,6 @@ const LIMIT: u64 = 4294967295;
 
 /// One base shard with the right to append to its log, at whose front its rows stand, and for each
 /// session the least number that its next write may have.
-#[derive(Drop)]
 pub struct BaseDomain<'p, F: Fronts> {
     plan: &'p Plan,
     table: usize,
@@ -34,6 +33,20 @@ pub struct BaseDomain<'p, F: Fronts> {
     right: F::Right,
     next: Vec<u64>,
     stopped: bool,
+}
+
+// What holds one drops it by this call, and need not know its parts.
+impl<F: Fronts> Drop for BaseDomain<'_, F> {
+    fn drop(self) {
+        let BaseDomain {
+            plan: _,
+            table: _,
+            shard: _,
+            right: _,
+            next: _,
+            stopped: _,
+        } = self;
+    }
 }
 
 impl<'p, F: Fronts> Model for BaseDomain<'p, F> {

@@ -64,12 +64,23 @@ impl Model for Opened {
 
 /// The words that all threads share: one for each base shard, then one for each session. Each has
 /// its lines of the cache to itself, so that sessions do not slow each other.
-#[derive(Drop)]
 pub struct Book<J: Naming> {
     words: Vec<CachePadded<Word<LogPage, u64, Law>>>,
     bases: usize,
     sessions: usize,
     of: PhantomData<J>,
+}
+
+// What holds one drops it by this call, and need not know its parts.
+impl<J: Naming> Drop for Book<J> {
+    fn drop(self) {
+        let Book {
+            words: _,
+            bases: _,
+            sessions: _,
+            of: _,
+        } = self;
+    }
 }
 
 impl<J: Naming> Model for Book<J> {

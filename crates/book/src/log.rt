@@ -14,9 +14,15 @@ use std::marker::Model;
 
 /// The right to append to the log of one base shard, with the front at which it appends. A book
 /// hands out one for each base shard, and none can be copied: no entry comes into a log but by it.
-#[derive(Drop)]
 pub struct Log<J: Naming> {
     front: Front<J>,
+}
+
+// What holds one drops it by this call, and need not know its parts.
+impl<J: Naming> Drop for Log<J> {
+    fn drop(self) {
+        let Log { front: _ } = self;
+    }
 }
 
 impl<J: Naming> Model for Log<J> {

@@ -22,13 +22,25 @@ use std::alloc::{AllocError, Global};
 use std::marker::{Model, PhantomData};
 
 /// A session: how often it has answered, its floors, and what it has seen.
-#[derive(Drop)]
 pub struct SessionWord<J: Naming> {
     number: usize,
     answered: u64,
     floors: Floors,
     seen: Seen<LogPage, u64, Law>,
     of: PhantomData<J>,
+}
+
+// What holds one drops it by this call, and need not know its parts.
+impl<J: Naming> Drop for SessionWord<J> {
+    fn drop(self) {
+        let SessionWord {
+            number: _,
+            answered: _,
+            floors: _,
+            seen: _,
+            of: _,
+        } = self;
+    }
 }
 
 impl<J: Naming> Model for SessionWord<J> {

@@ -51,12 +51,23 @@ pub enum Taking {
 ///
 /// The taker swaps its emptied queues for the filled ones, as one does with two buffers: the lock
 /// is held for a few words, however many messages there are.
-#[derive(Drop)]
 pub struct Inbox<T: Drop> {
     line: Mutex<Line<T>>,
     ready: AtomicBool,
     moved: Condvar,
     edges: usize,
+}
+
+// What holds one drops it by this call, and need not know its parts.
+impl<T: Drop> Drop for Inbox<T> {
+    fn drop(self) {
+        let Inbox {
+            line: _,
+            ready: _,
+            moved: _,
+            edges: _,
+        } = self;
+    }
 }
 
 impl<T: Drop> Model for Inbox<T> {

@@ -12,7 +12,6 @@ use view_domain::view_domain::ViewDomain;
 
 /// All domains of a plan, the queue of each edge, and the sessions. Nothing is kept by the type:
 /// each call says what it asks and what it leaves.
-#[derive(Drop)]
 pub struct Machine<'p, F: Fronts> {
     /// The plan, and where its domains and edges stand.
     pub places: Places<'p>,
@@ -32,4 +31,21 @@ pub struct Machine<'p, F: Fronts> {
     pub to_base: Queues<Request>,
     /// The sessions.
     pub callers: Vec<Caller>,
+}
+
+// What holds one drops it by this call, and need not know its parts.
+impl<F: Fronts> Drop for Machine<'_, F> {
+    fn drop(self) {
+        let Machine {
+            places: _,
+            bases: _,
+            stages: _,
+            views: _,
+            to_stage: _,
+            to_view: _,
+            from_view: _,
+            to_base: _,
+            callers: _,
+        } = self;
+    }
 }

@@ -10,10 +10,16 @@ use std::rc::Rc;
 const BLOCK: usize = 64;
 
 /// A list of items, in blocks. Copies share the items, and take no memory.
-#[derive(Drop)]
 pub struct Blocks<T: Drop> {
     full: Rc<Vec<Rc<Vec<Rc<T>>>>>,
     last: Rc<Vec<Rc<T>>>,
+}
+
+// What holds one drops it by this call, and need not know its parts.
+impl<T: Drop> Drop for Blocks<T> {
+    fn drop(self) {
+        let Blocks { full: _, last: _ } = self;
+    }
 }
 
 impl<T: Drop> Model for Blocks<T> {

@@ -8,9 +8,15 @@ use std::marker::Model;
 
 /// A length for each stage shard and each source. Those of up to two stage shards and four sources
 /// lie in the value itself, so that a copy of them takes no memory.
-#[derive(Drop)]
 pub struct Lengths {
     pub(crate) lines: SmallVec<SmallVec<u64, 4>, 2>,
+}
+
+// What holds one drops it by this call, and need not know its parts.
+impl Drop for Lengths {
+    fn drop(self) {
+        let Lengths { lines: _ } = self;
+    }
 }
 
 impl Model for Lengths {

@@ -19,12 +19,23 @@ pub struct Logged {
 
 /// A front that has its list of entries. Copies share it, and take no memory. Of its log it knows
 /// that list alone, so no word is ever seen to have moved.
-#[derive(Drop)]
 pub struct ListFront<'p> {
     plan: &'p Plan,
     base: usize,
     len: u64,
     entries: Blocks<Logged>,
+}
+
+// What holds one drops it by this call, and need not know its parts.
+impl Drop for ListFront<'_> {
+    fn drop(self) {
+        let ListFront {
+            plan: _,
+            base: _,
+            len: _,
+            entries: _,
+        } = self;
+    }
 }
 
 impl<'p> Model for ListFront<'p> {
@@ -51,9 +62,15 @@ impl<'p> Model for ListFront<'p> {
 
 /// The right to append to a list. An append costs a place for at most 64 entries, and each 64th one
 /// also a place for each 64 entries of the list.
-#[derive(Drop)]
 pub struct ListRight<'p> {
     front: ListFront<'p>,
+}
+
+// What holds one drops it by this call, and need not know its parts.
+impl Drop for ListRight<'_> {
+    fn drop(self) {
+        let ListRight { front: _ } = self;
+    }
 }
 
 impl<'p> Model for ListRight<'p> {

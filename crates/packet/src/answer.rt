@@ -13,7 +13,6 @@ use std::marker::Model;
 /// shows. Refused by the log, the front has all of the log that was seen, and no item of the call.
 /// An answer whose front would take memory that is refused has none: its refusal is `NoMemory` or
 /// `Stopped`, or it was accepted by a shard that then stopped.
-#[derive(Drop)]
 pub struct Answer<F: Fronts> {
     front: Option<F>,
     session: usize,
@@ -21,6 +20,20 @@ pub struct Answer<F: Fronts> {
     entry: Entry,
     refused: Option<Refused>,
     index: u64,
+}
+
+// What holds one drops it by this call, and need not know its parts.
+impl<F: Fronts> Drop for Answer<F> {
+    fn drop(self) {
+        let Answer {
+            front: _,
+            session: _,
+            number: _,
+            entry: _,
+            refused: _,
+            index: _,
+        } = self;
+    }
 }
 
 impl<F: Fronts> Model for Answer<F> {
@@ -96,6 +109,14 @@ impl<F: Fronts> Answer<F> {
         ensures front { result.1 ≡ self.front }
         ensures answer { IsAnswer F.log F.authors F.is_all self }
     {
-        (self.entry, self.front)
+        let Answer {
+            front,
+            session: _,
+            number: _,
+            entry,
+            refused: _,
+            index: _,
+        } = self;
+        (entry, front)
     }
 }

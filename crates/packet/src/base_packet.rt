@@ -13,7 +13,6 @@ use std::marker::Model;
 /// first `from` entries of the log and the front, or a piece of a key, or a marker. By its type it
 /// is true: as bags, the rows of the stage shard at the one front with the changes are those at the
 /// other, and a piece is all rows of its key.
-#[derive(Drop)]
 pub struct BasePacket<F: Fronts> {
     marker: Option<Marker>,
     stage: usize,
@@ -21,6 +20,20 @@ pub struct BasePacket<F: Fronts> {
     to: F,
     changes: Vec<Record>,
     piece: Option<Piece>,
+}
+
+// What holds one drops it by this call, and need not know its parts.
+impl<F: Fronts> Drop for BasePacket<F> {
+    fn drop(self) {
+        let BasePacket {
+            marker: _,
+            stage: _,
+            from: _,
+            to: _,
+            changes: _,
+            piece: _,
+        } = self;
+    }
 }
 
 impl<F: Fronts> Model for BasePacket<F> {
@@ -126,10 +139,12 @@ impl<F: Fronts> BasePacket<F> {
         ensures truth { IsTrueBase self }
     {
         let BasePacket {
+            marker: _,
+            stage: _,
+            from: _,
             to,
             changes,
             piece,
-            ..
         } = self;
         (to, changes, piece)
     }

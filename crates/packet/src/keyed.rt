@@ -7,10 +7,16 @@ use row::value::Value;
 use std::marker::Model;
 
 /// A record of a view, and the view's key that its row is of.
-#[derive(Drop)]
 pub struct Keyed {
     key: Value,
     change: Record,
+}
+
+// What holds one drops it by this call, and need not know its parts.
+impl Drop for Keyed {
+    fn drop(self) {
+        let Keyed { key: _, change: _ } = self;
+    }
 }
 
 impl Keyed {
@@ -40,7 +46,8 @@ impl Keyed {
         ensures key { datum_of result.0 ≡ self.key }
         ensures change { result.1 ≡ self.change }
     {
-        (self.key, self.change)
+        let Keyed { key, change } = self;
+        (key, change)
     }
 }
 

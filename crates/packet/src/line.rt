@@ -7,9 +7,15 @@ use std::alloc::{AllocError, Global};
 use std::marker::Model;
 
 /// A front of each source of the stage, in order: how far the logs were taken.
-#[derive(Drop)]
 pub struct Line<F: Fronts> {
     fronts: Vec<F>,
+}
+
+// What holds one drops it by this call, and need not know its parts.
+impl<F: Fronts> Drop for Line<F> {
+    fn drop(self) {
+        let Line { fronts: _ } = self;
+    }
 }
 
 impl<F: Fronts> Model for Line<F> {

@@ -9,10 +9,16 @@ use row::value::Value;
 use std::marker::Model;
 
 /// The rows that one sender has of a key, in order, as the answer to a request with this tag.
-#[derive(Drop)]
 pub struct Piece {
     of: Request,
     rows: Vec<Row>,
+}
+
+// What holds one drops it by this call, and need not know its parts.
+impl Drop for Piece {
+    fn drop(self) {
+        let Piece { of: _, rows: _ } = self;
+    }
 }
 
 impl Model for Piece {
@@ -60,6 +66,7 @@ impl Piece {
         ensures key { datum_of result.0 ≡ self.key }
         ensures rows { result.1.items ≡ self.rows }
     {
-        (self.of.into_key(), self.rows)
+        let Piece { of, rows } = self;
+        (of.into_key(), rows)
     }
 }

@@ -25,13 +25,25 @@ pub struct Content {
 /// the stage shard's part of each key at the one line with the changes of the key is its part at
 /// the other, but for the keys that it evicts, each once and in order; and a piece is the stage
 /// shard's part of its key. The line has a front of each source of its plan.
-#[derive(Drop)]
 pub struct StagePacket<F: Fronts> {
     stage: usize,
     reader: Reader,
     from: Vec<u64>,
     to: Line<F>,
     content: Content,
+}
+
+// What holds one drops it by this call, and need not know its parts.
+impl<F: Fronts> Drop for StagePacket<F> {
+    fn drop(self) {
+        let StagePacket {
+            stage: _,
+            reader: _,
+            from: _,
+            to: _,
+            content: _,
+        } = self;
+    }
 }
 
 impl<F: Fronts> Model for StagePacket<F> {
@@ -99,10 +111,11 @@ impl<F: Fronts> StagePacket<F> {
         ensures truth { IsTrueStage self }
     {
         let StagePacket {
+            stage: _,
+            reader: _,
             from,
             to,
             content,
-            ..
         } = self;
         (from, to, content)
     }

@@ -32,11 +32,21 @@ pub enum Evicted {
 }
 
 /// What is kept for keys, each of which has a part of its entry in each of a number of sources.
-#[derive(Drop)]
 pub struct Partial<K: Eq + Hash, E> {
     sources: usize,
     filled: Filled<K, E>,
     waiting: IndexMap<K, Pieces<E>>,
+}
+
+// What holds one drops it by this call, and need not know its parts.
+impl<K: Eq + Hash + Drop, E: Drop> Drop for Partial<K, E> {
+    fn drop(self) {
+        let Partial {
+            sources: _,
+            filled: _,
+            waiting: _,
+        } = self;
+    }
 }
 
 impl<K: Eq + Hash, E> Model for Partial<K, E> {

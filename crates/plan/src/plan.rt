@@ -88,9 +88,15 @@ impl Named for ViewPlan {
 /// A checked plan. Its type keeps the profile: between 1 and 8 tables of 1 to 16 columns and 1 to
 /// 8 shards, a stage of 1 to 8 shards, 1 to 4 views, every place inside, kinds that agree, and
 /// names that are apart.
-#[derive(Drop)]
 pub struct Plan {
     parts: Draft,
+}
+
+// What holds one drops it by this call, and need not know its parts.
+impl Drop for Plan {
+    fn drop(self) {
+        let Plan { parts: _ } = self;
+    }
 }
 
 impl Model for Plan {

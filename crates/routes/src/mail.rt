@@ -103,9 +103,15 @@ impl<J: Naming> BaseMail<J> {
 }
 
 /// The reply to a write. By its type an accepted one has the front that shows its entry.
-#[derive(Drop)]
 pub struct Reply<J: Naming> {
     answer: Answer<Front<J>>,
+}
+
+// What holds one drops it by this call, and need not know its parts.
+impl<J: Naming> Drop for Reply<J> {
+    fn drop(self) {
+        let Reply { answer: _ } = self;
+    }
 }
 
 impl<J: Naming> Model for Reply<J> {
@@ -141,7 +147,8 @@ impl<J: Naming> Reply<J> {
         ensures answer { result ≡ self }
         ensures front { HasFront result }
     {
-        self.answer
+        let Reply { answer } = self;
+        answer
     }
 }
 

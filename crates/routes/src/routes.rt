@@ -28,7 +28,6 @@ use std::sync::Wait;
 /// The plan, the book, and the ways between the threads: an inbox for each domain, what the
 /// sessions wait at, and which domains have begun and stopped. All of it is made at the start, so
 /// that a reply, an acknowledgement or a ring takes no memory.
-#[derive(Drop)]
 pub struct Routes<J: Naming> {
     plan: Plan,
     book: Book<J>,
@@ -37,6 +36,21 @@ pub struct Routes<J: Naming> {
     inboxes: Inboxes<J>,
     mailboxes: Mailboxes<J>,
     states: States,
+}
+
+// What holds one drops it by this call, and need not know its parts.
+impl<J: Naming> Drop for Routes<J> {
+    fn drop(self) {
+        let Routes {
+            plan: _,
+            book: _,
+            sources: _,
+            readers: _,
+            inboxes: _,
+            mailboxes: _,
+            states: _,
+        } = self;
+    }
 }
 
 // The inboxes of the base shards, the stage shards and the view shards.

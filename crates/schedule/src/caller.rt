@@ -62,12 +62,23 @@ impl OpenFence {
 
 /// A session: the number of its next write or fence, its floor at each view shard, its open fence,
 /// and for each base shard one more than the place of its last entry there.
-#[derive(Drop)]
 pub struct Caller {
     number: u64,
     floors: Vec<Lengths>,
     fence: Option<OpenFence>,
     own: Vec<u64>,
+}
+
+// What holds one drops it by this call, and need not know its parts.
+impl Drop for Caller {
+    fn drop(self) {
+        let Caller {
+            number: _,
+            floors: _,
+            fence: _,
+            own: _,
+        } = self;
+    }
 }
 
 impl Model for Caller {

@@ -21,13 +21,25 @@ use std::alloc::{AllocError, Global};
 use std::marker::Model;
 
 /// Where the domains and edges of a plan stand, found once.
-#[derive(Drop)]
 pub struct Places<'p> {
     plan: &'p Plan,
     sources: Vec<usize>,
     readers: Vec<Reader>,
     edges: Vec<Edge>,
     wires: Vec<Wire>,
+}
+
+// What holds one drops it by this call, and need not know its parts.
+impl Drop for Places<'_> {
+    fn drop(self) {
+        let Places {
+            plan: _,
+            sources: _,
+            readers: _,
+            edges: _,
+            wires: _,
+        } = self;
+    }
 }
 
 impl<'p> Model for Places<'p> {

@@ -42,7 +42,6 @@ pub struct Accepted {
 pub type Written = Result<Accepted, Refused>;
 
 /// What one caller holds of the store. It can move to another thread.
-#[derive(Drop)]
 pub struct Session<J: Naming> {
     pub(crate) word: SessionWord<J>,
     pub(crate) number: u64,
@@ -52,6 +51,22 @@ pub struct Session<J: Naming> {
     pub(crate) accepted: Vec<Option<u64>>,
     pub(crate) sights: Sights<J>,
     pub(crate) routes: Arc<Routes<J>>,
+}
+
+// What holds one drops it by this call, and need not know its parts.
+impl<J: Naming> Drop for Session<J> {
+    fn drop(self) {
+        let Session {
+            word: _,
+            number: _,
+            waits: _,
+            stolen: _,
+            seen: _,
+            accepted: _,
+            sights: _,
+            routes: _,
+        } = self;
+    }
 }
 
 impl<J: Naming> Model for Session<J> {

@@ -21,10 +21,16 @@ use std::marker::Model;
 
 /// One stage shard over a front of each source. The rows of its left side are all here; those of
 /// its right side only of stage keys that were asked for and are not evicted.
-#[derive(Drop)]
 pub struct StageDomain<'p, F: Fronts> {
     shard: StageShard<'p, F>,
     mode: Mode,
+}
+
+// What holds one drops it by this call, and need not know its parts.
+impl<F: Fronts> Drop for StageDomain<'_, F> {
+    fn drop(self) {
+        let StageDomain { shard: _, mode: _ } = self;
+    }
 }
 
 impl<'p, F: Fronts> Model for StageDomain<'p, F> {

@@ -18,7 +18,6 @@ use std::marker::Model;
 
 /// A stage shard over a front of each source: the rows of its sides, the requests that wait for
 /// rows of the right side, and the markers that have not come from all sources.
-#[derive(Drop)]
 pub struct StageShard<'p, F: Fronts> {
     pub(crate) plan: &'p Plan,
     pub(crate) shard: usize,
@@ -26,6 +25,20 @@ pub struct StageShard<'p, F: Fronts> {
     pub(crate) rows: StageRows<'p>,
     pub(crate) pending: Vec<Request>,
     pub(crate) marks: Marks,
+}
+
+// What holds one drops it by this call, and need not know its parts.
+impl<F: Fronts> Drop for StageShard<'_, F> {
+    fn drop(self) {
+        let StageShard {
+            plan: _,
+            shard: _,
+            line: _,
+            rows: _,
+            pending: _,
+            marks: _,
+        } = self;
+    }
 }
 
 impl<'p, F: Fronts> Model for StageShard<'p, F> {

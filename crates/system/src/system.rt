@@ -20,13 +20,25 @@ use std::thread::Threads;
 use workers::gate::Gate;
 
 /// A running store. Its threads end with `stop`.
-#[derive(Drop)]
 pub struct System<J: Naming> {
     domains: Domains<J>,
     words: Vec<SessionWord<J>>,
     readers: Vec<ShownReader<J>>,
     sessions: usize,
     given: usize,
+}
+
+// What holds one drops it by this call, and need not know its parts.
+impl<J: Naming> Drop for System<J> {
+    fn drop(self) {
+        let System {
+            domains: _,
+            words: _,
+            readers: _,
+            sessions: _,
+            given: _,
+        } = self;
+    }
 }
 
 impl<J: Naming> Model for System<J> {
@@ -124,7 +136,13 @@ impl<J: Naming + Send + Sync + 'static> System<J> {
     /// of sessions that need a thread are refused with `Stopped`; what is shown is still read. The
     /// shown copies are never freed.
     pub fn stop<R: Threads + Wait>(self, rt: &R) {
-        let System { domains, .. } = self;
+        let System {
+            domains,
+            words: _,
+            readers: _,
+            sessions: _,
+            given: _,
+        } = self;
         domains.stop(rt);
     }
 }

@@ -31,7 +31,6 @@ use std::marker::Model;
 /// One shard of a view over its cut, a line for each stage shard: its keys as partial state. Each
 /// filled key has the view's rows over the cut, unless memory was refused in the midst of a
 /// message.
-#[derive(Drop)]
 pub struct ViewDomain<'p, F: Fronts> {
     plan: &'p Plan,
     reader: Reader,
@@ -41,6 +40,22 @@ pub struct ViewDomain<'p, F: Fronts> {
     asked: u64,
     marks: Marks,
     mode: Mode,
+}
+
+// What holds one drops it by this call, and need not know its parts.
+impl<F: Fronts> Drop for ViewDomain<'_, F> {
+    fn drop(self) {
+        let ViewDomain {
+            plan: _,
+            reader: _,
+            tag: _,
+            cut: _,
+            kept: _,
+            asked: _,
+            marks: _,
+            mode: _,
+        } = self;
+    }
 }
 
 impl<'p, F: Fronts> Model for ViewDomain<'p, F> {

@@ -19,10 +19,19 @@ use std::marker::Model;
 
 /// All domains of a plan, the edges between them and the sessions, in one value with no thread:
 /// what it holds is the world that the protocol says.
-#[derive(Drop)]
 pub struct World<'p> {
-    machine: Machine<'p, ListFront<'p>>,
+    machine: Box<Machine<'p, ListFront<'p>>>,
     broken: bool,
+}
+
+// What holds one drops it by this call, and need not know its parts.
+impl Drop for World<'_> {
+    fn drop(self) {
+        let World {
+            machine: _,
+            broken: _,
+        } = self;
+    }
 }
 
 impl<'p> Model for World<'p> {
@@ -32,9 +41,9 @@ impl<'p> Model for World<'p> {
 
     ghost Value = { WorldView };
 
-    ghost view = { λ w. record { state = held w.machine; broken = w.broken } };
+    ghost view = { λ w. record { state = held w.machine.value; broken = w.broken } };
 
-    ghost invariant = { λ w. w.broken ≡ false → IsWhole log_of authors_of (held w.machine) };
+    ghost invariant = { λ w. w.broken ≡ false → IsWhole log_of authors_of (held w.machine.value) };
 }
 
 impl<'p> World<'p> {
@@ -47,8 +56,9 @@ impl<'p> World<'p> {
         ensures world { IfOk result (λ w. world_in w ≡ start true plan.now) }
         ensures whole { IfOk result (λ w. w.broken ≡ false) }
     {
+        let machine = new_machine(alloc, plan, list_rights(alloc, plan)?)?;
         Ok(World {
-            machine: new_machine(alloc, plan, list_rights(alloc, plan)?)?,
+            machine: Box::new(alloc, machine)?,
             broken: false,
         })
     }
