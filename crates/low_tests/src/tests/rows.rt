@@ -49,8 +49,7 @@ fn compared(alloc: Global, cells: &[Cell], others: &[Cell]) -> Result<Ordering, 
 #[test]
 fn rows_compare_by_value_and_then_by_length(rt: HostRuntime) -> Result<(), Fail> {
     for (cells, others, order) in ORDERS {
-        let found = compared(rt.alloc(), cells, others)?;
-        assert!(rt; found == order, "{found:?}, not {order:?}");
+        assert!(rt; compared(rt.alloc(), cells, others)? == order, "{order:?}");
     }
     Ok(())
 }
@@ -67,15 +66,14 @@ const PRINTED: [(&[Cell], &str); 6] = [
     (&[Int(1), Int(7), Text("c d")], "1 7 \"c d\""),
 ];
 
-fn printed(alloc: Global, cells: &[Cell]) -> Result<String, AllocError> {
-    row(alloc, cells)?.to_string(alloc)
+fn is_printed(alloc: Global, cells: &[Cell], text: &str) -> Result<bool, AllocError> {
+    Ok(row(alloc, cells)?.to_string(alloc)?.as_str() == text)
 }
 
 #[test]
 fn rows_are_printed(rt: HostRuntime) -> Result<(), Fail> {
     for (cells, text) in PRINTED {
-        let found = printed(rt.alloc(), cells)?;
-        assert!(rt; found.as_str() == text, "{found}, not {text}");
+        assert!(rt; is_printed(rt.alloc(), cells, text)?, "{text}");
     }
     Ok(())
 }
@@ -92,8 +90,7 @@ const QUOTED: [(&str, &str); 6] = [
 #[test]
 fn texts_are_quoted_where_they_have_to_be(rt: HostRuntime) -> Result<(), Fail> {
     for (text, quoted) in QUOTED {
-        let found = printed(rt.alloc(), &[Text(text)])?;
-        assert!(rt; found.as_str() == quoted, "{found}, not {quoted}");
+        assert!(rt; is_printed(rt.alloc(), &[Text(text)], quoted)?, "{quoted}");
     }
     Ok(())
 }

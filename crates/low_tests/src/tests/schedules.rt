@@ -88,12 +88,15 @@ fn are_placed(places: &Places) -> bool {
     true
 }
 
-fn has_places(alloc: Global) -> Result<bool, AllocError> {
-    let plan = Plan::built_in(alloc)?;
-    let places = Places::new(alloc, &plan)?;
+fn has_each(places: &Places) -> bool {
     let one = places.sources().len() == 1 && places.readers().len() == 1;
     let found = places.source_place(0) == Some(0) && places.source_place(1).is_none();
-    Ok(one && found && places.wires().len() == 4 && are_placed(&places))
+    one && found && places.wires().len() == 4 && are_placed(places)
+}
+
+fn has_places(alloc: Global) -> Result<bool, AllocError> {
+    let plan = Plan::built_in(alloc)?;
+    Ok(has_each(&Places::new(alloc, &plan)?))
 }
 
 #[test]
@@ -102,16 +105,19 @@ fn domains_and_edges_have_places(rt: HostRuntime) -> Result<(), Fail> {
     Ok(())
 }
 
+fn has_targets(plan: &Plan, entry: &Entry) -> bool {
+    let tables = write_target(plan, "notes", entry).is_ok()
+        && write_target(plan, "books", entry).is_err()
+        && write_target(plan, "notes", &Entry::Delete(Value::Int(1))).is_ok();
+    let views = read_target(plan, "by_author", &Value::Int(7)).is_ok()
+        && view_target(plan, "by_author").is_ok()
+        && view_target(plan, "notes").is_err();
+    tables && views
+}
+
 fn refuses(alloc: Global) -> Result<bool, AllocError> {
-    let plan = Plan::built_in(alloc)?;
     let entry = Entry::Insert(note(alloc, 7)?);
-    let tables = write_target(&plan, "notes", &entry).is_ok()
-        && write_target(&plan, "books", &entry).is_err()
-        && write_target(&plan, "notes", &Entry::Delete(Value::Int(1))).is_ok();
-    let views = read_target(&plan, "by_author", &Value::Int(7)).is_ok()
-        && view_target(&plan, "by_author").is_ok()
-        && view_target(&plan, "notes").is_err();
-    Ok(tables && views)
+    Ok(has_targets(&Plan::built_in(alloc)?, &entry))
 }
 
 #[test]
@@ -120,27 +126,64 @@ fn arguments_are_refused(rt: HostRuntime) -> Result<(), Fail> {
     Ok(())
 }
 
-// The reply to an acknowledgement with a cut of this length, of a fence that comes after one entry.
-fn ends(alloc: Global, entries: u64, past: bool) -> Result<Reply, Refused> {
-    let plan = Plan::built_in(alloc)?;
-    let places = Places::new(alloc, &plan)?;
-    let mut caller = Caller::new(alloc, &places, 1)?;
+/// What the acknowledgement of a fence that comes after one entry has: that entry in its cut, an
+/// empty cut, or the number of an earlier call.
+#[derive(Clone, Copy)]
+enum Ending {
+    Whole,
+    Behind,
+    Past,
+}
+
+// The reply to it.
+fn reply_to(
+    alloc: Global,
+    ending: Ending,
+    places: &Places,
+    caller: &mut Caller,
+) -> Result<Reply, Refused> {
     let write = caller.take_number()?;
     caller.wrote(0, 0);
     let fence = caller.take_number()?;
-    caller.open_fence(alloc, &places, fence)?;
-    let cut = Lengths::even(alloc, 1, &[entries])?;
+    caller.open_fence(alloc, places, fence)?;
     caller.raise_to(0, Lengths::empty(alloc));
-    caller.acknowledge(alloc, &places, 5, 0, if past { write } else { fence }, cut)
+    let (number, entries) = match ending {
+        Ending::Whole => (fence, 1),
+        Ending::Behind => (fence, 0),
+        Ending::Past => (write, 1),
+    };
+    let cut = Lengths::even(alloc, 1, &[entries])?;
+    caller.acknowledge(alloc, places, 5, 0, number, cut)
+}
+
+// Whether the reply is as wanted.
+fn is_replied(
+    alloc: Global,
+    ending: Ending,
+    places: &Places,
+    caller: &mut Caller,
+) -> Result<bool, Refused> {
+    let reply = reply_to(alloc, ending, places, caller)?;
+    Ok(match ending {
+        Ending::Whole => matches!(reply, Reply::Fenced(5)),
+        Ending::Behind => matches!(reply, Reply::Refused(Refused::Behind)),
+        Ending::Past => matches!(reply, Reply::Delivered),
+    })
+}
+
+fn ends(alloc: Global, plan: &Plan, ending: Ending) -> Result<bool, Refused> {
+    let places = Places::new(alloc, plan)?;
+    is_replied(alloc, ending, &places, &mut Caller::new(alloc, &places, 1)?)
 }
 
 fn ends_as_told(alloc: Global) -> Result<bool, Refused> {
-    let whole = ends(alloc, 1, false)?;
-    let behind = ends(alloc, 0, false)?;
-    let past = ends(alloc, 1, true)?;
-    let ended = matches!(whole, Reply::Fenced(5));
-    let refused = matches!(behind, Reply::Refused(Refused::Behind));
-    Ok(ended && refused && matches!(past, Reply::Delivered))
+    let plan = Plan::built_in(alloc)?;
+    for ending in &[Ending::Whole, Ending::Behind, Ending::Past] {
+        if !ends(alloc, &plan, *ending)? {
+            return Ok(false);
+        }
+    }
+    Ok(true)
 }
 
 #[test]
