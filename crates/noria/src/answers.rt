@@ -31,28 +31,21 @@ pub fn make<J: Naming, R: Wait>(
 ) -> Result<Answered, Refused> {
     match command {
         Command::Insert { table, cells } => {
-            let accepted = write(rt, alloc, session, table.as_str(), Words::Insert(cells))?;
-            Ok(Answered::Accepted { table, accepted })
+            make_write(rt, alloc, session, table, Words::Insert(cells))
         }
         Command::Update { table, cells } => {
-            let accepted = write(rt, alloc, session, table.as_str(), Words::Update(cells))?;
-            Ok(Answered::Accepted { table, accepted })
+            make_write(rt, alloc, session, table, Words::Update(cells))
         }
         Command::Delete { table, key } => {
-            let accepted = write(rt, alloc, session, table.as_str(), Words::Delete(key))?;
-            Ok(Answered::Accepted { table, accepted })
+            make_write(rt, alloc, session, table, Words::Delete(key))
         }
         Command::Fence => {
             session.fence(rt, alloc)?;
             Ok(Answered::Fenced)
         }
-        Command::Try { view, key } => {
-            let found = look(rt, alloc, session, false, view.as_str(), key)?;
-            Ok(Answered::Found(found))
-        }
+        Command::Try { view, key } => make_look(rt, alloc, session, false, view.as_str(), key),
         Command::Read { view, key } | Command::Closing { view, key } => {
-            let found = look(rt, alloc, session, true, view.as_str(), key)?;
-            Ok(Answered::Found(found))
+            make_look(rt, alloc, session, true, view.as_str(), key)
         }
         Command::EvictStage { key } => {
             evict_stage(rt, alloc, session, key)?;
@@ -66,8 +59,44 @@ pub fn make<J: Naming, R: Wait>(
     }
 }
 
-/// Writes the lines of an answer, or of a refusal.
-pub fn write_answer<O: Write>(answer: Result<Answered, Refused>, out: &mut O) -> io::Result<()> {
+// Makes a write to the table of this name.
+fn make_write<J: Naming, R: Wait>(
+    rt: &R,
+    alloc: Global,
+    session: &mut Session<J>,
+    table: String,
+    words: Words,
+) -> Result<Answered, Refused> {
+    let accepted = write(rt, alloc, session, table.as_str(), words)?;
+    Ok(Answered::Accepted { table, accepted })
+}
+
+// Makes a read, or else a try.
+fn make_look<J: Naming, R: Wait>(
+    rt: &R,
+    alloc: Global,
+    session: &mut Session<J>,
+    read: bool,
+    view: &str,
+    key: String,
+) -> Result<Answered, Refused> {
+    Ok(Answered::Found(look(rt, alloc, session, read, view, key)?))
+}
+
+/// Makes the call in a session, and writes the lines of its answer or refusal.
+pub fn answer<J: Naming, R: Wait, O: Write>(
+    rt: &R,
+    alloc: Global,
+    session: &mut Session<J>,
+    command: Command,
+    out: &mut O,
+) -> Result<(), Fault> {
+    let answered = make(rt, alloc, session, command);
+    write_answer(answered, out).map_err(|_| Fault::Refused(Refused::CannotWrite))
+}
+
+// Writes the lines of an answer, or of a refusal.
+fn write_answer<O: Write>(answer: Result<Answered, Refused>, out: &mut O) -> io::Result<()> {
     match answer {
         Ok(Answered::Accepted { table, accepted }) => {
             let Accepted { shard, index, .. } = accepted;

@@ -1,5 +1,5 @@
 //! Races scripts: all of them at once, each in a session and a thread of its own.
-use crate::answers::{Answered, make, write_answer};
+use crate::answers::{Answered, answer, make};
 use crate::fault::Fault;
 use crate::files::{calls_named, plan_named};
 use crate::play::{Play, start};
@@ -133,17 +133,27 @@ fn run_script<J: Naming, R: Wait>(
         closings: Vec::new(alloc),
     };
     for call in calls {
-        if let Command::Closing { .. } = call.command {
-            raced.closings.push(call.command)?;
-            continue;
-        }
-        match make(rt, alloc, &mut raced.session, call.command) {
-            Ok(Answered::Accepted { .. }) => raced.accepted = raced.accepted.saturating_add(1),
-            Ok(_) => (),
-            Err(_) => raced.refused = raced.refused.saturating_add(1),
-        }
+        run_call(rt, alloc, &mut raced, call.command)?;
     }
     Ok(raced)
+}
+
+// Makes a call and counts what comes of it; a closing read is put by.
+fn run_call<J: Naming, R: Wait>(
+    rt: &R,
+    alloc: Global,
+    raced: &mut Raced<J>,
+    command: Command,
+) -> Result<(), Refused> {
+    if let Command::Closing { .. } = command {
+        return Ok(raced.closings.push(command)?);
+    }
+    match make(rt, alloc, &mut raced.session, command) {
+        Ok(Answered::Accepted { .. }) => raced.accepted = raced.accepted.saturating_add(1),
+        Ok(_) => (),
+        Err(_) => raced.refused = raced.refused.saturating_add(1),
+    }
+    Ok(())
 }
 
 // As `tell`, through a buffer that is flushed at the end.
@@ -170,20 +180,41 @@ fn tell<J: Naming, R: Wait, O: Write>(
 ) -> Result<(), Fault> {
     let mut closings = Vec::new(alloc);
     for (number, mut one) in raced.into_iter().enumerate() {
-        let (accepted, refused) = (one.accepted, one.refused);
-        writeln!(out, "script {number} accepted {accepted} refused {refused}").map_err(
-            |_| Refused::CannotWrite,
-        )?;
-        session.meet(&mut one.session);
+        tell_one(number, &mut one, session, out)?;
         closings.push(one.closings).map_err(|_| Refused::NoMemory)?;
     }
-    let fenced = make(rt, alloc, session, Command::Fence);
-    write_answer(fenced, out).map_err(|_| Refused::CannotWrite)?;
+    answer(rt, alloc, session, Command::Fence, out)?;
     for commands in closings {
-        for command in commands {
-            let answer = make(rt, alloc, session, command);
-            write_answer(answer, out).map_err(|_| Refused::CannotWrite)?;
-        }
+        answer_all(rt, alloc, session, commands, out)?;
+    }
+    Ok(())
+}
+
+// Writes what a script came to, and meets its session.
+fn tell_one<J: Naming, O: Write>(
+    number: usize,
+    one: &mut Raced<J>,
+    session: &mut Session<J>,
+    out: &mut O,
+) -> Result<(), Refused> {
+    let (accepted, refused) = (one.accepted, one.refused);
+    writeln!(out, "script {number} accepted {accepted} refused {refused}").map_err(
+        |_| Refused::CannotWrite,
+    )?;
+    session.meet(&mut one.session);
+    Ok(())
+}
+
+// Makes the closing reads of a script.
+fn answer_all<J: Naming, R: Wait, O: Write>(
+    rt: &R,
+    alloc: Global,
+    session: &mut Session<J>,
+    commands: Vec<Command>,
+    out: &mut O,
+) -> Result<(), Fault> {
+    for command in commands {
+        answer(rt, alloc, session, command, out)?;
     }
     Ok(())
 }

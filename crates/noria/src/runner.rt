@@ -1,5 +1,5 @@
 //! Runs a script: its calls one after the other, and the lines of output of each.
-use crate::answers::{make, write_answer};
+use crate::answers::answer;
 use crate::fault::Fault;
 use crate::files::{calls_named, plan_named};
 use crate::play::{Play, start};
@@ -40,8 +40,19 @@ pub fn run_calls<J: Naming + Send + Sync + 'static, R: Wait, O: Write>(
     out: &mut O,
 ) -> Result<(), Fault> {
     let mut session = system.session(alloc)?;
+    answer_buffered(rt, alloc, &mut session, calls, out)
+}
+
+// Makes the calls in the session, and writes their answers by a buffer.
+fn answer_buffered<J: Naming, R: Wait, O: Write>(
+    rt: &R,
+    alloc: Global,
+    session: &mut Session<J>,
+    calls: Vec<Call>,
+    out: &mut O,
+) -> Result<(), Fault> {
     let mut out = BufWriter::new(alloc, out).map_err(|_| Refused::NoMemory)?;
-    answer_each(rt, alloc, &mut session, calls, &mut out)?;
+    answer_each(rt, alloc, session, calls, &mut out)?;
     out.flush()
         .map_err(|_| Fault::Refused(Refused::CannotWrite))
 }
@@ -55,8 +66,7 @@ fn answer_each<J: Naming, R: Wait, O: Write>(
     out: &mut O,
 ) -> Result<(), Fault> {
     for call in calls {
-        let answer = make(rt, alloc, session, call.command);
-        write_answer(answer, out).map_err(|_| Fault::Refused(Refused::CannotWrite))?;
+        answer(rt, alloc, session, call.command, out)?;
     }
     Ok(())
 }

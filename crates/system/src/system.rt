@@ -1,6 +1,7 @@
 //! A running store, and the sessions that it gives.
-ghost use Rattle.std.specs.Prelude.{◌≡◌, ◌⊎◌, ◌+◌, ◌<◌, ◌≤◌, ℕ, false, IfErr, IfOk, OnErr, OnOk, map, []};
-ghost use Rattle.model.specs.Histories.{floor_at};
+ghost use Rattle.std.specs.Prelude.{◌≡◌, ◌⊎◌, ◌+◌, ◌<◌, ◌≤◌, ℕ, false, IfErr, IfOk, None, OnErr, OnOk, map, replicate, []};
+ghost use Rattle.model.specs.{Histories.floor_at, Places.base_count};
+ghost use Rattle.packet.specs.Readers.{readers as readers_of};
 ghost use Rattle.sessions.specs.Callers.{reader_of};
 
 use crate::domains::Domains;
@@ -124,12 +125,28 @@ impl<J: Naming + Send + Sync + 'static> System<J> {
         if self.given >= self.sessions {
             return Err(Refused::NoSessionLeft);
         }
-        let routes = Arc::try_clone(self.domains.routes())?;
-        let readers = others(alloc, self.readers.as_slice())?;
-        let accepted = vec![in alloc; None; routes.book().bases()]?;
+        let Parts {
+            accepted,
+            readers,
+            routes,
+        } = self.parts(alloc)?;
         let word = self.words.remove(0);
         self.given += 1;
         Ok(Session::new(word, accepted, readers, routes))
+    }
+
+    // What the next session holds beside its word. Errors: memory only.
+    fn parts(&self, alloc: Global) -> Result<Parts<J>, AllocError>
+        ensures accepted { IfOk result (λ p. p.accepted.items
+            ≡ replicate (base_count J.plan) None) }
+        ensures readers { IfOk result (λ p. map reader_of p.readers.items ≡ readers_of J.plan) }
+    {
+        let routes = Arc::try_clone(self.domains.routes())?;
+        Ok(Parts {
+            accepted: vec![in alloc; None; routes.book().bases()]?,
+            readers: others(alloc, self.readers.as_slice())?,
+            routes,
+        })
     }
 
     /// Takes no more messages, lets the threads answer what was sent, and joins them. Later calls
@@ -145,6 +162,15 @@ impl<J: Naming + Send + Sync + 'static> System<J> {
         } = self;
         domains.stop(rt);
     }
+}
+
+/// What a session holds beside its word: that no base shard has accepted a write of it, a reader of
+/// each copy, and the ways to the threads.
+#[derive(Drop)]
+struct Parts<J: Naming> {
+    accepted: Vec<Option<u64>>,
+    readers: Vec<ShownReader<J>>,
+    routes: Arc<Routes<J>>,
 }
 
 // One more reader of each of the same copies.
