@@ -1,7 +1,4 @@
-pub mod Due
-pub mod Replies
+pub mod Places
 pub mod Sent
-pub mod Shows
-pub mod Starting
 pub mod Stepped
 pub mod Waiting

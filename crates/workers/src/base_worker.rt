@@ -2,10 +2,8 @@
 ghost use Rattle.std.specs.Prelude.{◌≡◌, ◌<◌, false, length};
 ghost use Rattle.base_domain.specs.Received.{Stays};
 ghost use Rattle.packet.specs.Outboxes.{IsClear};
-ghost use Rattle.workers.specs.BaseTurns.{Went, log_in};
+ghost use Rattle.domain_turns.specs.BaseTurns.{Went, log_in};
 
-use crate::base_turns::{BaseTurn, take_base};
-use crate::fresh::fresh_base;
 use crate::gate::Gate;
 use crate::turns::Turns;
 use crate::worker::{Worker, send_each};
@@ -13,6 +11,8 @@ use base_domain::base_domain::BaseDomain;
 use book::front::Front;
 use book::law::Naming;
 use book::log::Log;
+use domain_turns::base_turns::{BaseTurn, take_base};
+use domain_turns::fresh::fresh_base;
 use links::inbox::Inbox;
 use model::places::place_of;
 use packet::outbox::Outbox;

@@ -2,16 +2,16 @@
 ghost use Rattle.std.specs.Prelude.{◌≡◌, ◌<◌, length};
 ghost use Rattle.packet.specs.{Messages.none_of, Outboxes.packets_on, declared.mode.Mode.TheVariants.Running};
 ghost use Rattle.stage_steps.specs.{Codes.message_of, Outboxes.AreEdges, Outboxes.IsSilent};
-ghost use Rattle.workers.specs.StageTurns.{Went};
+ghost use Rattle.domain_turns.specs.StageTurns.{Went};
 
-use crate::fresh::fresh_stage;
 use crate::gate::Gate;
-use crate::stage_turns::take_stage;
 use crate::turns::Turns;
 use crate::worker::{Worker, send_each};
 use book::front::Front;
 use book::law::Naming;
 use book::part::Part;
+use domain_turns::fresh::fresh_stage;
+use domain_turns::stage_turns::take_stage;
 use links::inbox::Inbox;
 use packet::mode::Mode;
 use plan::domain::DomainId;

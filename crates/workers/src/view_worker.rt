@@ -1,20 +1,20 @@
 //! The thread of a view shard.
 ghost use Rattle.std.specs.Prelude.{◌≡◌, ◌<◌, [], length, slice_get, IfSome};
 ghost use Rattle.packet.specs.{Outboxes.packets_on, Messages.none_of, Readers.readers, declared.mode.Mode.TheVariants.Running};
-ghost use Rattle.workers.specs.ViewTurns.{Shows, Went};
+ghost use Rattle.domain_turns.specs.ViewTurns.{Shows, Went};
 ghost use Rattle.schedule.specs.Codes.{reader_in};
 ghost use Rattle.shown.specs.{Boards.pending, Boards.shown, Snapshots.first_of};
 ghost use Rattle.view_domain.specs.Outboxes.{IsClear};
 
-use crate::fresh::fresh_view;
 use crate::gate::Gate;
 use crate::turns::Turns;
-use crate::view_turns::take_from_inbox;
 use crate::waits::Waits;
 use crate::worker::{Worker, send_each};
 use book::front::Front;
 use book::law::Naming;
 use book::part::Part;
+use domain_turns::fresh::fresh_view;
+use domain_turns::view_turns::take_from_inbox;
 use links::inbox::Inbox;
 use packet::mode::Mode;
 use packet::reader::Reader;

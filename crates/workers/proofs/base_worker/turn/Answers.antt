@@ -1,8 +1,8 @@
 use Rattle.std.proofs.Common.{ap, sym, subst, ◌∙◌}
 use Rattle.book.specs.Fronts.{FrontView}
 use Rattle.base_domain.specs.Domains.{Domain}
-use Rattle.workers.specs.BaseTurns.{Went, with_reply}
-use Rattle.workers.proofs.Replies.{went}
+use Rattle.domain_turns.specs.BaseTurns.{Went, with_reply}
+use Rattle.domain_turns.proofs.Replies.{went}
 use Rattle.workers.proofs.base_worker.turn.Goals as goal
 
 pub returns-else-was_running-clause-went : goal.returns-else-was_running-clause-went

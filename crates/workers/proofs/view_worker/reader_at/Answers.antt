@@ -1,4 +1,4 @@
-use Rattle.workers.proofs.Starting.{reader_at, reader_there, stands}
+use Rattle.workers.proofs.Places.{reader_at, reader_there, stands}
 use Rattle.workers.proofs.view_worker.reader_at.Goals as goal
 
 pub returns-in-Some-clause-there : goal.returns-in-Some-clause-there

@@ -2,7 +2,7 @@ use Rattle.std.proofs.Common.{◌≡◌, [], length}
 use Rattle.packet.specs.declared.mode.Mode.TheVariants.{Running}
 use Rattle.shown.specs.Boards.{pending, shown}
 use Rattle.view_domain.specs.Outboxes.{IsClear}
-use Rattle.workers.specs.ViewTurns.{Shows}
+use Rattle.domain_turns.specs.ViewTurns.{Shows}
 use Rattle.workers.proofs.view_worker.serve.Given as goal
 
 abbrev pub invariant-loop : goal.invariant-loop

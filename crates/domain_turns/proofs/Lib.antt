@@ -1,0 +1,4 @@
+pub mod Due
+pub mod Replies
+pub mod Shows
+pub mod Starting

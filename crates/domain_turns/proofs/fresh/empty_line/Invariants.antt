@@ -1,0 +1,7 @@
+use Rattle.std.proofs.Common.{◌≡◌, map, take}
+use Rattle.domain_turns.proofs.Starting.{log_in}
+use Rattle.routes.specs.Mails.{empty_log}
+use Rattle.domain_turns.proofs.fresh.empty_line.Given as goal
+
+abbrev pub invariant-loop-base : goal.invariant-loop-base
+invariant-loop-base g l = record { logs : map (log_in g.J.Naming.plan) l.fronts.items ≡ map (empty_log g.J.Naming.plan) (take l.base-index l.sources) }

@@ -1,0 +1,4 @@
+pub mod BaseTurns
+pub mod Fresh
+pub mod StageTurns
+pub mod ViewTurns
