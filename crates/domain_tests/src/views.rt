@@ -19,8 +19,8 @@ enum Told {
     Order,
 }
 
-/// What is done with the view shard without a note: it is told something, sends so many requests and
-/// tells the shown copy or not; or a key is wanted and its piece comes.
+/// What is done with the view shard without a note: it is told something, sends so many requests
+/// and tells the shown copy or not; or a key is wanted and its piece comes.
 #[derive(Clone, Copy)]
 enum Scene {
     Tells(Told, usize, bool),

@@ -1,5 +1,5 @@
 -- Lines and cuts of empty fronts, and what a copy shows over them.
-use Rattle.std.proofs.Common.{◌≡◌, ℕ, zero, suc, ◌+◌, ◌<◌, List, [], ◌∷◌, ◌++◌, map, length, replicate, Some, Result, Ok, Err, IfOk, slice_get, slice_index_or, take, refl, ap, sym, ◌∙◌, subst, arith}
+use Rattle.std.proofs.Common.{◌≡◌, ℕ, zero, suc, ◌+◌, ◌<◌, List, [], ◌∷◌, ◌++◌, map, length, replicate, Result, Ok, Err, IfOk, slice_index_or, take, refl, ap, sym, ◌∙◌, subst}
 use Rattle.std.proofs.lemmas.List.{map-append, map_more, replicate_more}
 use Rattle.row.specs.Bags.{Each}
 use Rattle.plan.specs.Layouts.{Layout}
@@ -7,16 +7,11 @@ use Rattle.model.specs.Fronts.{LogView}
 use Rattle.model.specs.Places.{sources}
 use Rattle.book.specs.Fronts.{FrontView, entries}
 use Rattle.packet.specs.Lines.{AreOf, IsOf, entries_of}
-use Rattle.packet.specs.Readers.{Reader, readers}
 use Rattle.packet.specs.Truth.{Pointwise}
-use Rattle.packet.specs.declared.reader.Reader.{Reader as Code}
-use Rattle.protocol.proofs.Lists.{each_at, map_get}
 use Rattle.protocol.specs.WorldSteps.{lengths_of}
 use Rattle.routes.specs.Mails.{empty_log}
-use Rattle.schedule.specs.Codes.{reader_in}
 use Rattle.shown.specs.Snapshots.{first_of}
 use Rattle.view_domain.specs.Domains.{Domain, lines_of}
-use Rattle.view_domain.proofs.Readers.{readers_there}
 use Rattle.domain_turns.specs.Fresh.{empty_line, fresh_view}
 use Rattle.domain_turns.specs.ViewTurns.{Shows}
 

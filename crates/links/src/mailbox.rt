@@ -8,21 +8,11 @@ use std::sync::{Condvar, Mutex, Wait};
 /// for it to be empty. It takes no memory. A reply that nobody took gives way to the next: a
 /// session tells by what a reply carries whether it is to its call. Who waits looks a few times
 /// before it sleeps. What comes no contract says.
+#[derive(Drop)]
 pub struct Mailbox<T: Drop> {
     reply: Mutex<Option<T>>,
     ready: AtomicBool,
     moved: Condvar,
-}
-
-// What holds one drops it by this call, and need not know its parts.
-impl<T: Drop> Drop for Mailbox<T> {
-    fn drop(self) {
-        let Mailbox {
-            reply: _,
-            ready: _,
-            moved: _,
-        } = self;
-    }
 }
 
 impl<T: Drop> Mailbox<T> {

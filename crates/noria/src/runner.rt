@@ -43,7 +43,7 @@ pub fn run_calls<J: Naming + Send + Sync + 'static, R: Wait, O: Write>(
     answer_buffered(rt, alloc, &mut session, calls, out)
 }
 
-// Makes the calls in the session, and writes their answers by a buffer.
+// As `answer_each`, through a buffer that is flushed at the end.
 fn answer_buffered<J: Naming, R: Wait, O: Write>(
     rt: &R,
     alloc: Global,

@@ -18,21 +18,11 @@ use std::alloc::{AllocError, Global};
 use std::marker::Model;
 
 /// A reader of a shown copy, seen as what it has seen last.
+#[derive(Drop)]
 pub struct ShownReader<J: Naming> {
     reader: Reader<Shown<J>, Sight, Published>,
     view: usize,
     shard: usize,
-}
-
-// What holds one drops it by this call, and need not know its parts.
-impl<J: Naming> Drop for ShownReader<J> {
-    fn drop(self) {
-        let ShownReader {
-            reader: _,
-            view: _,
-            shard: _,
-        } = self;
-    }
 }
 
 impl<J: Naming> Model for ShownReader<J> {

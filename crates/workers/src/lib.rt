@@ -1,5 +1,5 @@
-//! The threads of a store: the order in which an inbox is taken, who waits for a key, and the loop of
-//! each thread.
+//! The threads of a store: the order in which an inbox is taken, who waits for a key, and the loop
+//! of each thread.
 #![tactic(auto)]
 
 pub mod base_worker;

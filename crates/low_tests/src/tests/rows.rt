@@ -49,7 +49,8 @@ fn compared(alloc: Global, cells: &[Cell], others: &[Cell]) -> Result<Ordering, 
 #[test]
 fn rows_compare_by_value_and_then_by_length(rt: HostRuntime) -> Result<(), Fail> {
     for (cells, others, order) in ORDERS {
-        assert!(rt; compared(rt.alloc(), cells, others)? == order, "{order:?}");
+        let found = compared(rt.alloc(), cells, others)?;
+        assert!(rt; found == order, "{found:?}, not {order:?}");
     }
     Ok(())
 }
