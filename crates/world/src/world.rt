@@ -20,7 +20,7 @@ use std::marker::Model;
 /// All domains of a plan, the edges between them and the sessions, in one value with no thread:
 /// what it holds is the world that the protocol says.
 pub struct World<'p> {
-    machine: Box<Machine<'p, ListFront<'p>>>,
+    machine: Machine<'p, ListFront<'p>>,
     broken: bool,
 }
 
@@ -41,9 +41,9 @@ impl<'p> Model for World<'p> {
 
     ghost Value = { WorldView };
 
-    ghost view = { λ w. record { state = held w.machine.value; broken = w.broken } };
+    ghost view = { λ w. record { state = held w.machine; broken = w.broken } };
 
-    ghost invariant = { λ w. w.broken ≡ false → IsWhole log_of authors_of (held w.machine.value) };
+    ghost invariant = { λ w. w.broken ≡ false → IsWhole log_of authors_of (held w.machine) };
 }
 
 impl<'p> World<'p> {
@@ -56,9 +56,8 @@ impl<'p> World<'p> {
         ensures world { IfOk result (λ w. world_in w ≡ start true plan.now) }
         ensures whole { IfOk result (λ w. w.broken ≡ false) }
     {
-        let machine = new_machine(alloc, plan, list_rights(alloc, plan)?)?;
         Ok(World {
-            machine: Box::new(alloc, machine)?,
+            machine: new_machine(alloc, plan, list_rights(alloc, plan)?)?,
             broken: false,
         })
     }
