@@ -23,13 +23,13 @@ fn is_letter(byte: u8) -> bool
 fn are_name_bytes(bytes: &[u8]) -> bool
     ensures { result ≡ list_all is_name_byte bytes.now }
 {
-    bytes.iter().all(|byte| is_name_byte(*byte))
+    bytes.iter().all(is_name_byte)
 }
 
-fn is_name_byte(byte: u8) -> bool
-    ensures { result ≡ is_name_byte byte }
+fn is_name_byte(byte: &u8) -> bool
+    ensures { result ≡ is_name_byte byte.now }
 {
-    is_letter(byte) || (b'0' <= byte && byte <= b'9') || byte == b'_'
+    is_letter(*byte) || (b'0' <= *byte && *byte <= b'9') || *byte == b'_'
 }
 
 /// What has a name.

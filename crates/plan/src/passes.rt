@@ -41,7 +41,7 @@ impl Draft {
     fn each_table_is_small(&self) -> bool
         ensures { result ≡ list_all table_is_small self.now.tables }
     {
-        self.tables.iter().all(|table| table.is_small())
+        self.tables.iter().all(Table::is_small)
     }
 
     fn stage_is_small(&self) -> bool
@@ -57,7 +57,10 @@ impl Draft {
     pub fn right_is_small(&self) -> bool
         ensures { result ≡ if_there side_is_small self.now.right }
     {
-        self.right.iter().all(|right| right.is_small())
+        match &self.right {
+            None => true,
+            Some(right) => right.is_small(),
+        }
     }
 
     fn views_are_small(&self) -> bool
@@ -69,7 +72,7 @@ impl Draft {
     fn each_view_is_small(&self) -> bool
         ensures { result ≡ list_all view_is_small self.now.views }
     {
-        self.views.iter().all(|view| view.is_small())
+        self.views.iter().all(ViewPlan::is_small)
     }
 
     /// Whether no two tables or views have one name, no two columns of a table have one, and no
@@ -83,13 +86,13 @@ impl Draft {
     fn tables_are_apart(&self) -> bool
         ensures { result ≡ list_all table_is_apart self.now.tables }
     {
-        self.tables.iter().all(|table| is_not_stage(table.name()) && table.columns_are_apart())
+        self.tables.iter().all(Table::is_apart)
     }
 
     fn views_are_not_stage(&self) -> bool
         ensures { result ≡ list_all (λ (v : ViewLayout). is_not_stage v.name) self.now.views }
     {
-        self.views.iter().all(|view| is_not_stage(view.name()))
+        self.views.iter().all(ViewPlan::is_not_stage)
     }
 
     /// Whether each table and column that is named is there; a view's key may be a column of either
@@ -106,13 +109,17 @@ impl Draft {
     fn keys_are_known(&self) -> bool
         ensures { result ≡ list_all key_is_known self.now.tables }
     {
-        self.tables.iter().all(|table| table.key() < table.width())
+        self.tables.iter().all(Table::has_key)
     }
 
     fn sides_are_known(&self) -> bool
         ensures { result ≡ sides_are_known self.now }
     {
-        self.side_is_known(&self.left) && self.right.iter().all(|right| self.side_is_known(right))
+        self.side_is_known(&self.left)
+            && match &self.right {
+                None => true,
+                Some(right) => self.side_is_known(right),
+            }
     }
 
     /// Whether the side's table is there, and the columns that it names.
@@ -207,7 +214,11 @@ impl Draft {
     fn values_agree(&self) -> bool
         ensures { result ≡ values_agree self.now }
     {
-        self.side_agrees(&self.left) && self.right.iter().all(|right| self.side_agrees(right))
+        self.side_agrees(&self.left)
+            && match &self.right {
+                None => true,
+                Some(right) => self.side_agrees(right),
+            }
     }
 
     /// Whether each value that the side compares a cell with is of the column's kind.
@@ -221,17 +232,17 @@ impl Draft {
     }
 }
 
-fn is_not_stage(name: &str) -> bool
-    ensures { result ≡ is_not_stage name.now }
-{
-    name != "stage"
-}
-
 impl ViewPlan {
     /// Whether the view has 1 to 8 shards, keeps 1 to 65536 keys, and its name is a name.
     pub fn is_small(&self) -> bool
         ensures { result ≡ view_is_small self.now }
     {
         is_from(1, 8, self.shards()) && is_from(1, 65536, self.cap()) && is_name(self.name())
+    }
+
+    fn is_not_stage(&self) -> bool
+        ensures { result ≡ is_not_stage self.now.name }
+    {
+        self.name() != "stage"
     }
 }

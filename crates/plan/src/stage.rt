@@ -130,7 +130,7 @@ impl Side {
     fn values_are_small(&self) -> bool
         ensures { result ≡ values_are_small self.now.conditions }
     {
-        self.conditions.iter().all(|condition| condition.is_small())
+        self.conditions.iter().all(Condition::is_small)
     }
 
     /// Whether the key and the columns of all conditions are among so many columns.

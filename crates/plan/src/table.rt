@@ -3,7 +3,7 @@ ghost use Rattle.std.specs.Prelude.{◌≡◌, ◌<◌, ◌&&◌, length, string
 ghost use Rattle.std.specs.Bool.{OnTrue};
 ghost use Rattle.std.specs.List.{list_all};
 ghost use Rattle.row.specs.Cells.{datum_of};
-ghost use Rattle.plan.specs.{Kinds.is_cell, Kinds.is_row, Layouts.ColumnLayout, Layouts.TableLayout, Layouts.column_at, Layouts.kind_at, Recipes.table, Profile.is_from, Profile.is_name, Profile.table_is_small, Profile.columns_are_apart};
+ghost use Rattle.plan.specs.{Kinds.is_cell, Kinds.is_row, Layouts.ColumnLayout, Layouts.TableLayout, Layouts.column_at, Layouts.kind_at, Recipes.table, Profile.is_from, Profile.is_name, Profile.table_is_small, Profile.table_is_apart, Profile.key_is_known, Profile.columns_are_apart};
 
 use crate::kinds::Kind;
 use crate::names::{Named, are_apart, is_name};
@@ -37,6 +37,12 @@ impl Column {
             name: String::from_str(alloc, name)?,
             kind,
         })
+    }
+
+    fn is_named(&self) -> bool
+        ensures { result ≡ is_name self.now.name }
+    {
+        is_name(&self.name)
     }
 
     /// Whether the value is a cell of the column.
@@ -190,6 +196,20 @@ impl Table {
     {
         are_apart(&self.columns)
     }
+
+    /// Whether the table is not named `stage`, and no two columns have one name.
+    pub(crate) fn is_apart(&self) -> bool
+        ensures { result ≡ table_is_apart self.now }
+    {
+        self.name.as_str() != "stage" && self.columns_are_apart()
+    }
+
+    /// Whether the key column is one of the columns.
+    pub(crate) fn has_key(&self) -> bool
+        ensures { result ≡ key_is_known self.now }
+    {
+        self.key < self.columns.len()
+    }
 }
 
 impl Named for Table {
@@ -204,7 +224,7 @@ impl Named for Table {
 fn are_named(columns: &[Column]) -> bool
     ensures { result ≡ list_all (λ (c : ColumnLayout). is_name c.name) columns.now }
 {
-    columns.iter().all(|column| is_name(column.name()))
+    columns.iter().all(Column::is_named)
 }
 
 fn all_take(columns: &[Column], row: &Row) -> bool
