@@ -1,9 +1,8 @@
 //! The tests.
 mod evaluator;
+mod filters;
 mod gathers;
 mod histories;
-mod parts;
 mod plans;
-mod sides;
 mod stages;
 mod words;

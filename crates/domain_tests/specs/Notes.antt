@@ -1,14 +1,12 @@
--- What the tests of domains speak of: the log of notes, and packets of it.
-use Rattle.std.specs.Prelude.{◌≡◌, [], ◌∷◌, Some, None, codes, pos}
+-- The log of notes, and packets of it to its stage shard.
+use Rattle.std.specs.Prelude.{◌≡◌, [], ◌∷◌, codes, pos}
 use Rattle.row.specs.Cells.{Cells, int, text}
 use Rattle.plan.specs.Recipes.{notes_plan}
 use Rattle.model.specs.Fronts.{LogView}
 use Rattle.model.specs.Logs.{inserts}
-use Rattle.packet.specs.Messages.{BasePacketView, StagePacketView}
-use Rattle.packet.specs.declared.mode.Mode.TheVariants.{Running}
+use Rattle.packet.specs.Messages.{BasePacketView}
 use Rattle.protocol.specs.Stages.{ToStage}
 use Rattle.stage_domain.specs.Domains.{Domain, IsNew, Meets}
-use Rattle.view_domain.specs.Domains as view
 
 -- note 1 of author 7
 abbrev pub note_row : Cells
@@ -31,26 +29,9 @@ pub record IsOfNotes (k : BasePacketView) : Type 0 where
   pub base : k.base ≡ 0
   pub stage : k.stage ≡ 0
 
--- the piece of author 7, of whom there is no note
-abbrev pub no_piece : StagePacketView
-no_piece = record { plan = notes_plan; stage = 0; view = 0; shard = 0; from = [] ∷ []; to = [] ∷ []; changes = []; evicts = []; piece = Some (record { tag = 1; key = int (pos 7); rows = [] }); marker = None }
-
 -- it is the stage shard at the log without a note
 abbrev pub IsFirstStage : Domain → Type 0
 IsFirstStage d = IsNew notes_plan 0 (no_notes ∷ []) d
-
--- the view shard there, with no key
-abbrev pub first_view : view.Domain
-first_view = record {
-  plan = notes_plan;
-  view = 0;
-  shard = 0;
-  cut = (no_notes ∷ []) ∷ [];
-  kept = record { sources = 1; filled = []; waiting = [] };
-  asked = 0;
-  marks = record { senders = 1; waiting = [] };
-  mode = Running;
-}
 
 -- the message is for the stage shard at the log without a note
 pub record IsForFirst (are_one : LogView → LogView → Type 0) (m : ToStage) : Type 0 where

@@ -1,11 +1,5 @@
-//! Tests of `stage_domain` and `view_domain`: that each message is taken, and what it puts out.
+//! The test of a packet out of turn.
 #![tactic(auto)]
 
 #[cfg(test)]
-mod domains;
-#[cfg(test)]
-mod notes;
-#[cfg(test)]
-mod stages;
-#[cfg(test)]
-mod views;
+mod gaps;

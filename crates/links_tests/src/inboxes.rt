@@ -1,4 +1,4 @@
-//! Queues and an inbox in one thread, and what is done with them in other tests.
+//! An inbox in one thread, and what is done with one in other tests.
 ghost use Rattle.std.specs.Prelude.{◌≡◌, ◌<◌, length, IfOk};
 
 use links::inbox::{Inbox, Taking};
@@ -35,57 +35,6 @@ pub fn digits(queues: &mut Queues<u64>, edge: usize) -> u64
         }
     }
     all
-}
-
-// Whether three queues have just what is put on them.
-fn are_kept(queues: &mut Queues<u64>) -> Result<bool, AllocError>
-    requires { length queues.old ≡ 3 }
-{
-    let first = queues.is_empty() && queues.pop(0).is_none();
-    fill(queues)?;
-    let counts = queues.len(0) == 2 && queues.len(1) == 0 && queues.len(3) == 0;
-    let last = !queues.is_empty() && digits(queues, 0) == 12;
-    let left = !queues.is_empty() && digits(queues, 2) == 3 && digits(queues, 3) == 0;
-    Ok(first && counts && last && left && queues.is_empty() && queues.edges() == 3)
-}
-
-fn fill(queues: &mut Queues<u64>) -> Result<(), AllocError>
-    requires { length queues.old ≡ 3 }
-{
-    queues.put(0, 1)?;
-    queues.put(2, 3)?;
-    queues.put(0, 2)?;
-    Ok(())
-}
-
-#[test]
-fn queues_keep_what_is_put(rt: HostRuntime) -> Result<(), Fail> {
-    let mut queues = Queues::new(rt.alloc(), 3)?;
-    assert!(rt; are_kept(&mut queues)?);
-    Ok(())
-}
-
-// What is put is taken, edge by edge, and what was left of it before what came since.
-fn gives_all<R: Wait>(rt: &R, inbox: &Inbox<u64>, queues: &mut Queues<u64>) -> Result<bool, Refused>
-    requires { length queues.old ≡ inbox.now }
-{
-    put(rt, inbox, 0, 1)?;
-    put(rt, inbox, 1, 2)?;
-    put(rt, inbox, 0, 3)?;
-    let taken = inbox.take_all(rt, queues) == Taking::Taken;
-    let first = digits(queues, 0) == 13;
-    put(rt, inbox, 1, 4)?;
-    let again = inbox.take_all(rt, queues) == Taking::Taken && digits(queues, 1) == 2;
-    let since = inbox.take_all(rt, queues) == Taking::Taken && digits(queues, 1) == 4;
-    Ok(taken && first && again && since && queues.is_empty())
-}
-
-#[test]
-fn an_inbox_gives_all(rt: HostRuntime) -> Result<(), Fail> {
-    let (inbox, mut queues) = pair(rt.alloc(), 2)?;
-    assert!(rt; inbox.edges() == 2);
-    assert!(rt; gives_all(&rt, &inbox, &mut queues)?);
-    Ok(())
 }
 
 // A closed inbox gives what is in it, and then says so.

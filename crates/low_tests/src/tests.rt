@@ -1,11 +1,7 @@
 //! The tests.
-mod bases;
-mod books;
 mod cells;
-mod edges;
-mod fronts;
+mod cuts;
 mod indexes;
 mod packets;
 mod plans;
 mod rows;
-mod schedules;

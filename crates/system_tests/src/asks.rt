@@ -1,12 +1,12 @@
 //! Calls of a running system and its sessions with no clause, so that the proof of a test does not
 //! carry what each says.
-use crate::notes::note;
 use book::law::Naming;
 use model::entry::Entry;
 use row::refused::Refused;
+use row::row::Row;
 use row::value::Value;
 use sessions::reads::Found;
-use sessions::session::{Accepted, Session};
+use sessions::session::Session;
 use std::alloc::{AllocError, Global};
 use std::sync::Wait;
 use std::test::Fail;
@@ -101,10 +101,6 @@ pub struct Caller<J: Naming, R> {
 }
 
 impl<J: Naming, R: Wait> Caller<J, R> {
-    pub fn write(&mut self, table: &str, entry: Entry) -> Result<Accepted, Refused> {
-        self.session.write(&self.rt, self.alloc, table, entry)
-    }
-
     pub fn fence(&mut self) -> Result<(), Refused> {
         self.session.fence(&self.rt, self.alloc)
     }
@@ -124,8 +120,17 @@ impl<J: Naming, R: Wait> Caller<J, R> {
 
     // Inserts a row of the table, by its id and its second cell, and gives its index.
     pub fn add(&mut self, table: &str, id: i128, other: i128) -> Result<u64, Refused> {
-        let entry = Entry::Insert(note(self.alloc, id, other)?);
-        let accepted = self.write(table, entry)?;
+        let entry = Entry::Insert(row(self.alloc, id, other)?);
+        let accepted = self.session.write(&self.rt, self.alloc, table, entry)?;
         Ok(accepted.index)
     }
+}
+
+// A row of two numbers and a text.
+fn row(alloc: Global, id: i128, other: i128) -> Result<Row, AllocError> {
+    let mut cells = Vec::new(alloc);
+    cells.push(Value::Int(id))?;
+    cells.push(Value::Int(other))?;
+    cells.push(Value::Text(String::from_str(alloc, "a")?))?;
+    Row::new(alloc, cells)
 }

@@ -1,4 +1,4 @@
-//! Sessions: inserts, fences, reads and meetings.
+//! Sessions of a system that has stopped, sessions that meet, and four at once.
 use crate::asks::{Caller, Running, Work, expect};
 use crate::runs::{Scene, run_notes};
 use crate::steps::{Call, Step, Told};
@@ -10,56 +10,20 @@ use std::test::Fail;
 use std::thread::Threads;
 
 #[test]
-fn one_session(rt: HostRuntime) -> Result<(), Fail> {
-    run_notes(rt, rt.alloc(), 1, Scene::OneSession)
-}
-
-const OF_ONE: &[Step] = &[
-    (Call::Read(7), Ok(Told::Rows(0, 0))),
-    (Call::Fence, Ok(Told::Fenced)),
-    (Call::Insert("notes", 0), Ok(Told::Index(0))),
-    (Call::Insert("notes", 0), Err(Refused::Duplicate)),
-    (Call::Insert("nope", 1), Err(Refused::UnknownTable)),
-    (Call::InsertShortRow, Err(Refused::BadRow)),
-    (Call::Insert("notes", 1), Ok(Told::Index(1))),
-    (Call::Insert("notes", 2), Ok(Told::Index(2))),
-    (Call::Fence, Ok(Told::Fenced)),
-    (Call::Read(7), Ok(Told::Rows(3, 2))),
-    (Call::Read(8), Ok(Told::Rows(3, 1))),
-    (Call::TryRead("by_author", 9), Ok(Told::Miss)),
-    (Call::Read(9), Ok(Told::Rows(3, 0))),
-    (Call::TryRead("by_author", 9), Ok(Told::Rows(3, 0))),
-    (Call::TryRead("nope", 7), Err(Refused::UnknownView)),
-    (Call::ReadText, Err(Refused::BadKey)),
-    (Call::Update(3, 7), Err(Refused::Absent)),
-    (Call::Update(2, 8), Ok(Told::Index(3))),
-    (Call::Delete(0), Ok(Told::Index(4))),
-    (Call::Delete(0), Err(Refused::Absent)),
-    (Call::DeleteText, Err(Refused::BadKey)),
-];
-
-pub fn calls_of_one<
-    J: Naming + Send + Sync + 'static,
-    R: Threads + Wait + Copy + Drop + Send + 'static,
->(running: &mut Running<J, R>) -> Result<(), Fail> {
-    running.next()?.make_all(OF_ONE)
-}
-
-#[test]
 fn a_session_of_a_stopped_system(rt: HostRuntime) -> Result<(), Fail> {
     run_notes(rt, rt.alloc(), 1, Scene::Stopped)
 }
 
 const BEFORE_STOP: &[Step] = &[
-    (Call::Insert("notes", 0), Ok(Told::Index(0))),
+    (Call::Insert(0), Ok(Told::Index(0))),
     (Call::Fence, Ok(Told::Fenced)),
     (Call::Read(7), Ok(Told::Rows(1, 1))),
 ];
 
 const AFTER_STOP: &[Step] = &[
-    (Call::Insert("notes", 1), Err(Refused::Stopped)),
+    (Call::Insert(1), Err(Refused::Stopped)),
     (Call::Fence, Err(Refused::Stopped)),
-    (Call::TryRead("by_author", 7), Ok(Told::Rows(1, 1))),
+    (Call::TryRead(7), Ok(Told::Rows(1, 1))),
     (Call::Read(7), Ok(Told::Rows(1, 1))),
     (Call::Read(8), Err(Refused::Stopped)),
 ];
@@ -87,12 +51,12 @@ fn sessions_that_meet(rt: HostRuntime) -> Result<(), Fail> {
     run_notes(rt, rt.alloc(), 2, Scene::Meeting)
 }
 
-const OF_FIRST: &[Step] = &[(Call::Insert("notes", 0), Ok(Told::Index(0)))];
+const OF_FIRST: &[Step] = &[(Call::Insert(0), Ok(Told::Index(0)))];
 
 const OF_SECOND: &[Step] = &[
-    (Call::Insert("notes", 0), Err(Refused::Duplicate)),
+    (Call::Insert(0), Err(Refused::Duplicate)),
     (Call::Fence, Ok(Told::Fenced)),
-    (Call::Insert("notes", 1), Ok(Told::Index(1))),
+    (Call::Insert(1), Ok(Told::Index(1))),
 ];
 
 const AFTER_MEETING: &[Step] = &[

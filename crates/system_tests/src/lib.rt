@@ -1,4 +1,4 @@
-//! Tests of base shards, and of sessions of running systems.
+//! Tests of sessions of running systems.
 #![tactic(auto)]
 
 #[cfg(test)]
@@ -8,12 +8,6 @@ mod callers;
 #[cfg(test)]
 mod gates;
 #[cfg(test)]
-mod notes;
-#[cfg(test)]
-mod reads;
-#[cfg(test)]
 mod runs;
-#[cfg(test)]
-mod shards;
 #[cfg(test)]
 mod steps;

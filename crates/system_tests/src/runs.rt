@@ -2,8 +2,8 @@
 ghost use Rattle.std.specs.Prelude.{◌≡◌, ◌<◌};
 
 use crate::asks::{Running, fail};
+use crate::callers;
 use crate::gates::{Line, insert_lines};
-use crate::{callers, reads};
 use book::book::Opened;
 use book::law::Naming;
 use plan::plan::Plan;
@@ -18,10 +18,8 @@ use workers::gate::{Gate, OpenGate};
 /// What is done, and asked of what comes of it.
 #[derive(Clone, Copy)]
 pub enum Scene {
-    OneSession,
     FourSessions,
     Meeting,
-    ReadsBeside,
     Stopped,
     Lines(&'static [Line]),
 }
@@ -92,10 +90,8 @@ fn play<J: Naming + Send + Sync + 'static, R: Threads + Wait + Copy + Drop + Sen
     scene: Scene,
 ) -> Result<(), Fail> {
     let played = match scene {
-        Scene::OneSession => callers::calls_of_one(&mut running),
         Scene::FourSessions => callers::calls_of_four(&mut running),
         Scene::Meeting => callers::calls_of_two(&mut running),
-        Scene::ReadsBeside => reads::reads_beside(&mut running),
         Scene::Lines(lines) => insert_lines(&mut running, lines),
         Scene::Stopped => return callers::calls_of_stopped(running),
     };

@@ -1,12 +1,8 @@
-//! Records that are split by the shard of a column, and an outbox with room.
+//! Records that are split by the shard of a column.
 use super::cells::Cell::Int;
 use super::cells::row;
-use model::fronts::Fronts;
-use model::list::ListFront;
-use packet::outbox::Outbox;
 use packet::split::split;
 use row::record::{Record, Sign};
-use row::refused::Refused;
 use std::alloc::{AllocError, Global};
 use std::test::Fail;
 
@@ -70,17 +66,5 @@ fn records_are_split(rt: HostRuntime) -> Result<(), Fail> {
 fn none_has_the_column(rt: HostRuntime) -> Result<(), Fail> {
     let parts = parts(rt.alloc(), &[1, 2], 1)?;
     assert!(rt; parts.iter().all(|part| part.is_empty()));
-    Ok(())
-}
-
-fn room<F: Fronts>(alloc: Global) -> Result<usize, Refused> {
-    let mut out: Outbox<F> = Outbox::new(alloc, 3)?;
-    out.reserve()?;
-    Ok(out.stages())
-}
-
-#[test]
-fn an_outbox_has_room(rt: HostRuntime) -> Result<(), Fail> {
-    assert!(rt; room::<ListFront>(rt.alloc())? == 3);
     Ok(())
 }
