@@ -26,7 +26,3 @@ cut_fronts p v o w cut s j b n c f lj is vw ow =
     let all : fronts_of p (history_of w) cut ≡ fronts_of p (history_of v) cut = ap (λ h. fronts_of p h cut) r.1 ∙ fronts_later p (history_of v) r.0 cut c.lengths in
     let one : take n (log_of (source_at p j) (history_of w)) ≡ take n (log_of b (history_of o)) = ap (λ x. take n (log_of x (history_of w))) is ∙ entries_later p o w b n f ow in
     fronts_set p (history_of w) cut s j n lj ∙ (ap (λ fs. with_front fs s j (take n (log_of (source_at p j) (history_of w)))) all ∙ ap (with_front (fronts_of p (history_of v) cut) s j) one)
-
--- a cut within a history names the same fronts in a longer one
-pub fronts_grown : (p : Layout) (v w : List Page) (cut : Lengths) → IsWithin p (history_of v) cut → IsPrefix v w → fronts_of p (history_of w) cut ≡ fronts_of p (history_of v) cut
-fronts_grown p v w cut c vw = let r = rest_of v w vw in ap (λ h. fronts_of p h cut) r.1 ∙ fronts_later p (history_of v) r.0 cut c.lengths

@@ -1,5 +1,5 @@
 //! Cuts: lengths of fronts, and one history for all of them.
-ghost use Rattle.std.specs.Prelude.{◌≡◌, ◌≢◌, ◌<◌, IsTrue, IsFalse, length, replicate, IfOk};
+ghost use Rattle.std.specs.Prelude.{◌≡◌, ◌<◌, length, replicate, IfOk};
 ghost use mathlib.Core.List.{IsPrefix};
 ghost use Rattle.model.specs.{Histories.len_at, Cuts.IsWithin, Places.base_count, Places.sources as sources_of, Places.source_at, Tables.even_floors, Tables.with_floor, Tables.with_front, Tables.with_length};
 ghost use Rattle.book.specs.{Fronts.entries, Sessions.fronts};
@@ -117,17 +117,6 @@ impl<J: Naming> Cut<J> {
             seen: self.seen.again(),
             of: PhantomData,
         })
-    }
-
-    /// Whether the two name the same fronts: they do where their lengths are the same.
-    pub fn agrees(&self, other: &Cut<J>) -> bool
-        ensures lengths { IsTrue result → self.now.lengths ≡ other.now.lengths }
-        ensures fronts { IsTrue result → fronts J.plan self.now ≡ fronts J.plan other.now }
-        ensures other { IsFalse result → self.now.lengths ≢ other.now.lengths }
-    {
-        let mut seen = self.seen.again();
-        learn::<J>(&mut seen, &other.seen);
-        self.lengths.is_same(&other.lengths)
     }
 
     /// The cut at which each stage shard has the empty front of each source. Errors: memory only.
