@@ -1,4 +1,5 @@
-use Rattle.std.proofs.Common.{◌∙◌, ◌++◌, ◌∷◌, [], length, length-set, ap, subst}
+use Rattle.std.proofs.Common.{◌∙◌, ◌++◌, ◌∷◌, [], length, length-set, ap, subst, arith}
+use Rattle.std.proofs.lemmas.Grind.{common_steps}
 use Rattle.model.specs.Entries.{change_of}
 use Rattle.model.specs.Logs.{Change}
 use Rattle.base.specs.Shards.{Shard, IsAt}
@@ -90,3 +91,96 @@ returns-in-Err-clause-edges g c = ap (λ (o : OutboxView g.row.F.Denot). length 
 
 pub returns-in-Ok-Here-clause-memory : goal.returns-in-Ok-Here-clause-memory
 returns-in-Ok-Here-clause-memory g c = memory_told g.F.Fronts.log g.F.Fronts.authors g.F.Fronts.may_refuse c.args.write c.tell-told.result c.answer_accepted.result c.tell-told.new.out c.answer_accepted.new.out c.len-index.result c.answer_accepted.ensures.ok c.tell-told.ensures.only
+
+pub commit-requires-clause-key : goal.commit-requires-clause-key
+commit-requires-clause-key g c = grind (arith, common_steps)
+
+pub commit-requires-clause-room : goal.commit-requires-clause-room
+commit-requires-clause-room g c = grind (arith, common_steps)
+
+pub decline-requires-clause-why : goal.decline-requires-clause-why
+decline-requires-clause-why g c = grind (arith, common_steps)
+
+pub decline-requires-in-Err-clause-why : goal.decline-requires-in-Err-clause-why
+decline-requires-in-Err-clause-why g c = grind (arith, common_steps)
+
+pub decline-requires-in-Ok-Moved-clause-why : goal.decline-requires-in-Ok-Moved-clause-why
+decline-requires-in-Ok-Moved-clause-why g c = grind (arith, common_steps)
+
+pub drop-kept-requires : goal.drop-kept-requires
+drop-kept-requires g c = grind (arith, common_steps)
+
+pub drop-kept-requires-in-Err : goal.drop-kept-requires-in-Err
+drop-kept-requires-in-Err g c = grind (arith, common_steps)
+
+pub drop-kept-requires-in-Err-3 : goal.drop-kept-requires-in-Err-3
+drop-kept-requires-in-Err-3 g c = grind (arith, common_steps)
+
+pub drop-kept-requires-in-Ok-Moved-3 : goal.drop-kept-requires-in-Ok-Moved-3
+drop-kept-requires-in-Ok-Moved-3 g c = grind (arith, common_steps)
+
+pub index_mut-requires : goal.index_mut-requires
+index_mut-requires g c = grind (arith, common_steps)
+
+pub invariant_of-self : goal.invariant_of-self
+invariant_of-self g c = grind (arith, common_steps)
+
+pub invariant_of-self-in-Err : goal.invariant_of-self-in-Err
+invariant_of-self-in-Err g c = grind (arith, common_steps)
+
+pub invariant_of-self-in-Err-2 : goal.invariant_of-self-in-Err-2
+invariant_of-self-in-Err-2 g c = grind (arith, common_steps)
+
+pub invariant_of-self-in-Ok-Moved : goal.invariant_of-self-in-Ok-Moved
+invariant_of-self-in-Ok-Moved g c = grind (arith, common_steps)
+
+pub invariant_of-self-in-Ok-Moved-2 : goal.invariant_of-self-in-Ok-Moved-2
+invariant_of-self-in-Ok-Moved-2 g c = grind (arith, common_steps)
+
+pub len-index-requires : goal.len-index-requires
+len-index-requires g c = grind (arith, common_steps)
+
+pub overflow_add-write : goal.overflow_add-write
+overflow_add-write g c = grind (arith, common_steps)
+
+pub ready_for-requires : goal.ready_for-requires
+ready_for-requires g c = grind (arith, common_steps)
+
+pub returns-in-Err-clause-done : goal.returns-in-Err-clause-done
+returns-in-Err-clause-done g c = grind (arith, common_steps)
+
+pub returns-in-Err-clause-memory : goal.returns-in-Err-clause-memory
+returns-in-Err-clause-memory g c = grind (arith, common_steps)
+
+pub returns-in-Err-clause-refused : goal.returns-in-Err-clause-refused
+returns-in-Err-clause-refused g c = grind (arith, common_steps)
+
+pub returns-in-Ok-Here-clause-refused : goal.returns-in-Ok-Here-clause-refused
+returns-in-Ok-Here-clause-refused g c = grind (arith, common_steps)
+
+pub returns-in-Ok-Moved-clause-done : goal.returns-in-Ok-Moved-clause-done
+returns-in-Ok-Moved-clause-done g c = grind (arith, common_steps)
+
+pub returns-in-Ok-Moved-clause-memory : goal.returns-in-Ok-Moved-clause-memory
+returns-in-Ok-Moved-clause-memory g c = grind (arith, common_steps)
+
+pub returns-in-Ok-Moved-clause-refused : goal.returns-in-Ok-Moved-clause-refused
+returns-in-Ok-Moved-clause-refused g c = grind (arith, common_steps)
+
+pub returns-in_default-clause-done : goal.returns-in_default-clause-done
+returns-in_default-clause-done g c = grind (arith, common_steps)
+
+pub returns-in_default-clause-edges : goal.returns-in_default-clause-edges
+returns-in_default-clause-edges g c = grind (arith, common_steps)
+
+pub returns-in_default-clause-memory : goal.returns-in_default-clause-memory
+returns-in_default-clause-memory g c = grind (arith, common_steps)
+
+pub returns-in_default-clause-refused : goal.returns-in_default-clause-refused
+returns-in_default-clause-refused g c = grind (arith, common_steps)
+
+pub tell-told-requires-clause-room : goal.tell-told-requires-clause-room
+tell-told-requires-clause-room g c = grind (arith, common_steps)
+
+pub tell-told-requires-clause-within : goal.tell-told-requires-clause-within
+tell-told-requires-clause-within g c = grind (arith, common_steps)
