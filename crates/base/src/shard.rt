@@ -178,45 +178,10 @@ impl BaseShard {
         self.rows.get(key_in(entry, self.key_column))
     }
 
-    /// The row of a lawful entry's key, where one is held. One look-up, but for an Insert, whose
-    /// key has no row.
-    fn find_lawful(&self, entry: &Entry) -> Option<&Row>
-        requires key { HasKey self.now.key (change_of entry.now) }
-        requires lawful { refusal_of self.now (change_of entry.now) ≡ None }
-        ensures held { is_some result ≡ is_held self.now.key self.now.rows
-            (key_of self.now.key (change_of entry.now)) }
-        ensures only { IfSome result (λ r. filter (has self.now.key
-            (key_of self.now.key (change_of entry.now))) self.now.rows ≡ r.now ∷ []) }
-    {
-        match entry {
-            Entry::Insert(_) => None,
-            Entry::Delete(_) | Entry::Update(_) => self.find(entry),
-        }
-    }
-
-    /// What an entry that `check` allows changes in the rows: plus the row of an Insert, minus the
-    /// row of a Delete's key, and for an Update minus the old row of its key, then plus the new
-    /// one. Errors: memory only. One look-up of a key, but for an Insert, and a copy of each of
-    /// these rows, at most two.
-    pub fn changes(&self, alloc: Global, entry: &Entry) -> Result<Vec<Record>, AllocError>
-        requires key { HasKey self.now.key (change_of entry.now) }
-        requires lawful { refusal_of self.now (change_of entry.now) ≡ None }
-        ensures records { IfOk result (λ v. v.items ≡ records_at self.now (change_of entry.now)) }
-        ensures count { IfOk result (λ v. length v.items ≡ record_count (change_of entry.now)) }
-        ensures turns { IfOk result (λ v. Turns self.now.rows v.items
-            (rows_with self.now (change_of entry.now))) }
-        ensures records_at { IfOk result (λ v. (front : List Change) → IsAt self.now front → v.items
-            ≡ records_of self.now.key (rows_of self.now.key front) (change_of entry.now)) }
-        ensures turns_at { IfOk result (λ v. (front : List Change) → IsAt self.now front
-            → Turns (rows_of self.now.key front) v.items
-            (rows_of self.now.key (front ++ change_of entry.now ∷ []))) }
-    {
-        self.records(alloc, entry, self.find_lawful(entry))
-    }
-
-    /// What `check` says of the entry and, where it allows it, what `changes` does, with one
-    /// look-up of a key for both. Errors: memory only, and only for an entry that is allowed. A
-    /// copy of each row that the entry changes, at most two.
+    /// What `check` says of the entry and, where it allows it, what the entry changes in the rows:
+    /// plus the row of an Insert, minus the row of a Delete's key, and for an Update minus the old
+    /// row of its key, then plus the new one. Errors: memory only, and only for an entry that is
+    /// allowed. One look-up of a key, and a copy of each of these rows, at most two.
     pub fn check_changes(
         &self,
         alloc: Global,

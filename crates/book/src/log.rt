@@ -1,13 +1,11 @@
 //! Logs: the right to append.
 ghost use Rattle.std.specs.Prelude.{◌≡◌, ◌<◌, ◌≤◌, [], ◌∷◌, length, OnOk, IfErr};
-ghost use mathlib.Core.List.{IsPrefix};
 ghost use Rattle.model.specs.{Entries.change_of, Histories.log_of, Legal.IsLegal, Places.base_count};
-ghost use Rattle.book.specs.{Fronts.entries, Fronts.authors, Fronts.IsAppended, Fronts.IsMoved, Fronts.MayAppend, Pages.opens, Rights.empty_front};
+ghost use Rattle.book.specs.{Fronts.IsAppended, Fronts.IsMoved, Fronts.MayAppend, Pages.opens, Rights.empty_front};
 
 use crate::book::Book;
 use crate::front::Front;
 use crate::law::{Law, LogPage, Naming};
-use crate::part::Part;
 use logbook::Seen;
 use model::entry::Entry;
 use std::marker::Model;
@@ -68,24 +66,6 @@ impl<J: Naming> Log<J> {
         ensures { result ≡ self.now }
     {
         self.front.again()
-    }
-
-    /// All that was seen with it.
-    pub fn part(&self) -> Part<J>
-        ensures part { result ≡ self.now.seen }
-    {
-        self.front.part()
-    }
-
-    /// Sees the log as it is, and says how long it is. Its front stays.
-    pub fn look(&mut self, book: &Book<J>) -> u64
-        ensures found { result ≡ length (log_of self.new.base self.new.seen) }
-        ensures entries { entries self.new ≡ entries self.old }
-        ensures authors { authors self.new ≡ authors self.old }
-        ensures stays { self.new ≡ record self.old { seen = self.new.seen } }
-        ensures seen { IsPrefix self.old.seen self.new.seen }
-    {
-        self.front.look(book)
     }
 
     /// Adds an entry at the end of the log. Errors: where the log has moved; then a front comes

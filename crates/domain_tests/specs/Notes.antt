@@ -1,10 +1,9 @@
--- The log of notes, and packets of it to its stage shard.
+-- The log of notes, and what is for its stage shard.
 use Rattle.std.specs.Prelude.{◌≡◌, [], ◌∷◌, codes, pos}
 use Rattle.row.specs.Cells.{Cells, int, text}
 use Rattle.plan.specs.Recipes.{notes_plan}
 use Rattle.model.specs.Fronts.{LogView}
 use Rattle.model.specs.Logs.{inserts}
-use Rattle.packet.specs.Messages.{BasePacketView}
 use Rattle.protocol.specs.Stages.{ToStage}
 use Rattle.stage_domain.specs.Domains.{Domain, IsNew, Meets}
 
@@ -22,12 +21,6 @@ one_note = record no_notes { entries = inserts note_row ∷ [] }
 -- any front of a log is known to be of one log with a front without entries
 abbrev pub AreOne : (LogView → LogView → Type 0) → Type 0
 AreOne are_one = (l m : LogView) → l.entries ≡ [] → are_one l m
-
--- a packet of the only base shard to the only stage shard
-pub record IsOfNotes (k : BasePacketView) : Type 0 where
-  pub plan : k.plan ≡ notes_plan
-  pub base : k.base ≡ 0
-  pub stage : k.stage ≡ 0
 
 -- it is the stage shard at the log without a note
 abbrev pub IsFirstStage : Domain → Type 0

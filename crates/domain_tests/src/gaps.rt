@@ -1,9 +1,8 @@
 //! A packet out of turn is a gap, at which a stage shard stops.
-ghost use Rattle.std.specs.Prelude.{◌≡◌, [], ◌∷◌, IfOk};
+ghost use Rattle.std.specs.Prelude.{◌≡◌, [], IfOk};
 ghost use Rattle.plan.specs.Recipes.{notes_plan};
 ghost use Rattle.stage_steps.specs.Codes.{message_of};
-ghost use Rattle.stage_domain.specs.Domains.{Meets};
-ghost use Rattle.domain_tests.specs.Notes.{note_row, no_notes, one_note, AreOne, IsFirstStage, IsForFirst, IsOfNotes};
+ghost use Rattle.domain_tests.specs.Notes.{note_row, no_notes, one_note, AreOne, IsFirstStage, IsForFirst};
 
 use model::entry::Entry;
 use model::fronts::{Found, Fronts};

@@ -10,7 +10,6 @@ pub mod PlaceLaws
 pub mod Sources
 pub mod CutLaws
 pub mod Zeros
-pub mod SameLines
 pub mod Samples
 pub mod MoreSamples
 pub mod LegalSamples

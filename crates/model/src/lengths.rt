@@ -1,5 +1,5 @@
 //! Lengths of the sources' logs, one for each stage shard and source.
-ghost use Rattle.std.specs.Prelude.{◌≡◌, ◌≢◌, ◌<◌, [], ◌∷◌, ◌++◌, IsTrue, IsFalse, length, map, replicate, slice_index_or, IfOk, OnOk, OnErr};
+ghost use Rattle.std.specs.Prelude.{◌≡◌, ◌<◌, [], ◌∷◌, ◌++◌, length, map, replicate, slice_index_or, IfOk, OnOk, OnErr};
 ghost use Rattle.model.specs.{Histories.len_at, Tables.with_length};
 
 use smallvec::SmallVec;
@@ -98,14 +98,6 @@ impl Lengths {
             Some(len) => *len,
             None => 0,
         }
-    }
-
-    /// Whether the two cuts have the same lengths.
-    pub fn is_same(&self, other: &Lengths) -> bool
-        ensures same { IsTrue result → self.now ≡ other.now }
-        ensures other { IsFalse result → self.now ≢ other.now }
-    {
-        self.lines == other.lines
     }
 
     /// Sets one length.

@@ -110,13 +110,6 @@ impl<F: Fronts> BasePacket<F> {
         &self.to
     }
 
-    /// The rows that come and go.
-    pub fn changes(&self) -> &[Record]
-        ensures { result.now ≡ self.now.changes }
-    {
-        &self.changes
-    }
-
     /// The piece that it carries, if it does.
     pub fn piece(&self) -> Option<&Piece>
         ensures { option_map (λ p. p.now) result ≡ self.now.piece }

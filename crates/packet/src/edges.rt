@@ -108,14 +108,6 @@ impl<P: Drop> Edges<P> {
         self.edges.len()
     }
 
-    /// What is on an edge, in order.
-    pub fn packets(&self, edge: usize) -> &[P]
-        requires { edge < length self.now }
-        ensures { result.now ≡ (slice_index_or self.now edge no_edge).packets }
-    {
-        &self.edges[edge].packets
-    }
-
     /// Room for one more on each edge, so that `push` takes no memory. `NoMemory` leaves what is on
     /// the edges as it was, and so does success.
     pub fn reserve(&mut self) -> Result<(), Refused>

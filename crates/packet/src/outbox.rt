@@ -44,14 +44,6 @@ impl<F: Fronts> Outbox<F> {
         self.edges.count()
     }
 
-    /// The packets to a stage shard, in order.
-    pub fn packets(&self, stage: usize) -> &[BasePacket<F>]
-        requires { stage < length self.now.edges }
-        ensures { result.now ≡ (slice_index_or self.now.edges stage no_edge).packets }
-    {
-        self.edges.packets(stage)
-    }
-
     /// Room for one packet more on each edge, so that `push` takes no memory. `NoMemory` leaves the
     /// packets and the reply as they were, and so does success.
     pub fn reserve(&mut self) -> Result<(), Refused>
