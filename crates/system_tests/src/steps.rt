@@ -16,8 +16,8 @@ pub enum Call {
     TryRead(i128),
 }
 
-/// What a call that was not refused told. Rows are the number of entries in the cut and that of the
-/// rows.
+/// What a call that was not refused told: of a read, how many entries its cut has and how many rows
+/// came.
 #[derive(Clone, Copy, PartialEq, Eq)]
 pub enum Told {
     Fenced,
