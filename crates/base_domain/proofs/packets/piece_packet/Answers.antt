@@ -2,9 +2,6 @@ use Rattle.std.proofs.Common.{arith}
 use Rattle.std.proofs.lemmas.Grind.{common_steps}
 use Rattle.base_domain.proofs.packets.piece_packet.Goals as goal
 
-pub drop-to-requires : goal.drop-to-requires
-drop-to-requires g c κs within = grind (arith, common_steps)
-
 pub into_key-requires : goal.into_key-requires
 into_key-requires g c = grind (arith, common_steps)
 

@@ -107,18 +107,6 @@ decline-requires-in-Err-clause-why g c = grind (arith, common_steps)
 pub decline-requires-in-Ok-Moved-clause-why : goal.decline-requires-in-Ok-Moved-clause-why
 decline-requires-in-Ok-Moved-clause-why g c = grind (arith, common_steps)
 
-pub drop-kept-requires : goal.drop-kept-requires
-drop-kept-requires g c = grind (arith, common_steps)
-
-pub drop-kept-requires-in-Err : goal.drop-kept-requires-in-Err
-drop-kept-requires-in-Err g c = grind (arith, common_steps)
-
-pub drop-kept-requires-in-Err-3 : goal.drop-kept-requires-in-Err-3
-drop-kept-requires-in-Err-3 g c = grind (arith, common_steps)
-
-pub drop-kept-requires-in-Ok-Moved-3 : goal.drop-kept-requires-in-Ok-Moved-3
-drop-kept-requires-in-Ok-Moved-3 g c = grind (arith, common_steps)
-
 pub index_mut-requires : goal.index_mut-requires
 index_mut-requires g c = grind (arith, common_steps)
 

@@ -2,12 +2,6 @@ use Rattle.std.proofs.Common.{arith}
 use Rattle.std.proofs.lemmas.Grind.{common_steps}
 use Rattle.base_domain.proofs.base_domain.BaseDomain.new.Goals as goal
 
-pub drop-right-requires : goal.drop-right-requires
-drop-right-requires g c κs within = grind (arith, common_steps)
-
-pub drop-right-requires-in_err-no_rows : goal.drop-right-requires-in_err-no_rows
-drop-right-requires-in_err-no_rows g c κs within = grind (arith, common_steps)
-
 pub invariant_of-result : goal.invariant_of-result
 invariant_of-result g c = grind (arith, common_steps)
 
