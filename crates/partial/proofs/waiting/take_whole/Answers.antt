@@ -1,5 +1,4 @@
-use Rattle.std.proofs.Common.{◌≡◌, Option, Some, None, Bool, true, List, sym, arith}
-use Rattle.std.proofs.lemmas.Grind.{common_steps}
+use Rattle.std.proofs.Common.{◌≡◌, Option, Some, None, Bool, true, List, sym}
 use Rattle.std.specs.Option.{option_map, IfSome}
 use Rattle.std.specs.Map.{lookup_key}
 use Rattle.std.proofs.lemmas.Map.Made.{lookup_key_passes}
@@ -11,30 +10,3 @@ stored_passes test es (Some p) h = lookup_key_passes test es p.0 (sym h)
 
 pub returns-then-put_piece-clause-stored : goal.returns-then-put_piece-clause-stored
 returns-then-put_piece-clause-stored g c = stored_passes (g.K.PartialEq.eq c.args.key.now) c.put_piece.new.waiting.entries c.swap_remove_entry.result c.swap_remove_entry.ensures.key
-
-pub returns-else-put_piece-clause-stored : goal.returns-else-put_piece-clause-stored
-returns-else-put_piece-clause-stored g c = grind (arith, common_steps)
-
-pub returns-else-put_piece-clause-taken : goal.returns-else-put_piece-clause-taken
-returns-else-put_piece-clause-taken g c = grind (arith, common_steps)
-
-pub returns-else-put_piece-clause-unknown : goal.returns-else-put_piece-clause-unknown
-returns-else-put_piece-clause-unknown g c = grind (arith, common_steps)
-
-pub returns-else-put_piece-clause-waits : goal.returns-else-put_piece-clause-waits
-returns-else-put_piece-clause-waits g c = grind (arith, common_steps)
-
-pub returns-else-put_piece-clause-whole : goal.returns-else-put_piece-clause-whole
-returns-else-put_piece-clause-whole g c = grind (arith, common_steps)
-
-pub returns-then-put_piece-clause-taken : goal.returns-then-put_piece-clause-taken
-returns-then-put_piece-clause-taken g c = grind (arith, common_steps)
-
-pub returns-then-put_piece-clause-unknown : goal.returns-then-put_piece-clause-unknown
-returns-then-put_piece-clause-unknown g c = grind (arith, common_steps)
-
-pub returns-then-put_piece-clause-waits : goal.returns-then-put_piece-clause-waits
-returns-then-put_piece-clause-waits g c = grind (arith, common_steps)
-
-pub returns-then-put_piece-clause-whole : goal.returns-then-put_piece-clause-whole
-returns-then-put_piece-clause-whole g c = grind (arith, common_steps)

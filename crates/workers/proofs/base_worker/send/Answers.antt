@@ -1,5 +1,4 @@
 use Rattle.std.proofs.Common.{arith}
-use Rattle.std.proofs.lemmas.Grind.{common_steps}
 use Rattle.workers.proofs.Sent.{emptied}
 use Rattle.workers.proofs.base_worker.send.Goals as goal
 
@@ -7,9 +6,3 @@ pub returns-clause-clear : goal.returns-clause-clear
 returns-clause-clear g c =
     let i = c.loop-stage.invariant in
     record { packets = emptied c.loop-stage.out.edges c.loop-stage.stage-counter i.none (omega (arith, c.loop-stage-test.false, c.loop-stage.auto.stage-counter-end, c.stages-stage-end.ensures, i.edges)); reply = i.reply }
-
-pub loop-stage-preserved : goal.loop-stage-preserved
-loop-stage-preserved g c = grind (arith, common_steps)
-
-pub returns-clause-edges : goal.returns-clause-edges
-returns-clause-edges g c = grind (arith, common_steps)

@@ -1,5 +1,4 @@
 use Rattle.std.proofs.Common.{arith}
-use Rattle.std.proofs.lemmas.Grind.{common_steps}
 use Rattle.workers.proofs.Sent.{emptied}
 use Rattle.workers.proofs.stage_worker.send_packets.Goals as goal
 
@@ -7,12 +6,3 @@ pub returns-clause-none : goal.returns-clause-none
 returns-clause-none g c =
     let i = c.loop-reader.invariant in
     emptied c.loop-reader.out.packets c.loop-reader.reader-counter i.none (omega (arith, c.loop-reader-test.false, c.loop-reader.auto.reader-counter-end, c.readers-reader-end.ensures, i.edges))
-
-pub loop-reader-preserved : goal.loop-reader-preserved
-loop-reader-preserved g c = grind (arith, common_steps)
-
-pub returns-clause-edges : goal.returns-clause-edges
-returns-clause-edges g c = grind (arith, common_steps)
-
-pub returns-clause-rest : goal.returns-clause-rest
-returns-clause-rest g c = grind (arith, common_steps)

@@ -1,5 +1,4 @@
 use Rattle.std.proofs.Common.{arith}
-use Rattle.std.proofs.lemmas.Grind.{common_steps}
 use Rattle.workers.proofs.Sent.{emptied}
 use Rattle.workers.proofs.stage_worker.send_requests.Goals as goal
 
@@ -7,12 +6,3 @@ pub returns-clause-none : goal.returns-clause-none
 returns-clause-none g c =
     let i = c.loop-source.invariant in
     emptied c.loop-source.out.requests c.loop-source.source-counter i.none (omega (arith, c.loop-source-test.false, c.loop-source.auto.source-counter-end, c.sources-source-end.ensures, i.edges))
-
-pub loop-source-preserved : goal.loop-source-preserved
-loop-source-preserved g c = grind (arith, common_steps)
-
-pub returns-clause-edges : goal.returns-clause-edges
-returns-clause-edges g c = grind (arith, common_steps)
-
-pub returns-clause-rest : goal.returns-clause-rest
-returns-clause-rest g c = grind (arith, common_steps)

@@ -1,5 +1,4 @@
-use Rattle.std.proofs.Common.{◌<◌, rules, arith}
-use Rattle.std.proofs.lemmas.Grind.{common_steps}
+use Rattle.std.proofs.Common.{◌<◌, rules}
 use Rattle.std.specs.HashMap.{spare, values}
 use Rattle.base.proofs.Indexes.{indexes_alike}
 use Rattle.base.proofs.Kept.{reordered_alike}
@@ -16,27 +15,3 @@ invariant_of-self-2 c =
 pub returns-clause-ok : goal.returns-clause-ok
 returns-clause-ok c =
     rw (← c.self.view_is) (shard_is _ _ _ _ _ _ _ (reordered_rows c.self.inside.rows c.reserve.new.self c.reserve.ensures.entries) (search rules))
-
-pub returns-clause-err : goal.returns-clause-err
-returns-clause-err c = grind (arith, common_steps)
-
-pub returns-clause-only : goal.returns-clause-only
-returns-clause-only c = grind (arith, common_steps)
-
-pub returns-in_err-key-clause-err : goal.returns-in_err-key-clause-err
-returns-in_err-key-clause-err c = grind (arith, common_steps)
-
-pub returns-in_err-key-clause-ok : goal.returns-in_err-key-clause-ok
-returns-in_err-key-clause-ok c = grind (arith, common_steps)
-
-pub returns-in_err-key-clause-only : goal.returns-in_err-key-clause-only
-returns-in_err-key-clause-only c = grind (arith, common_steps)
-
-pub returns-in_err-map_err-clause-err : goal.returns-in_err-map_err-clause-err
-returns-in_err-map_err-clause-err c = grind (arith, common_steps)
-
-pub returns-in_err-map_err-clause-ok : goal.returns-in_err-map_err-clause-ok
-returns-in_err-map_err-clause-ok c = grind (arith, common_steps)
-
-pub returns-in_err-map_err-clause-only : goal.returns-in_err-map_err-clause-only
-returns-in_err-map_err-clause-only c = grind (arith, common_steps)

@@ -1,5 +1,4 @@
 use Rattle.std.proofs.Common.{◌≡◌, ◌∷◌, ◌++◌, [], map, length, append_assoc, sym, ◌∙◌, ap, refl, arith}
-use Rattle.std.proofs.lemmas.Grind.{common_steps}
 use Rattle.std.proofs.lemmas.List.{length-map}
 use Rattle.std.proofs.lemmas.List.FromFn.{length-map-range_with_len}
 use Rattle.base_domain.specs.Told.{part_packet}
@@ -45,30 +44,3 @@ loop-changes-preserved g c =
           (c.new.ensures ∙ part_is log _ c.args.from c.loop-changes.stage c.args.self x c.in_ok-to.ensures.same.0 (part_at i.0 x rest c.args.self c.loop-changes.stage [] i.2 whole)) c.push_reserved.ensures.items,
       omega (arith, c.push_reserved.ensures.capacity, i.4),
     )
-
-pub loop-changes-smaller : goal.loop-changes-smaller
-loop-changes-smaller g c = grind (arith, common_steps)
-
-pub new-requires-clause-within : goal.new-requires-clause-within
-new-requires-clause-within g c = grind (arith, common_steps)
-
-pub next-requires : goal.next-requires
-next-requires g c = grind (arith, common_steps)
-
-pub of-requires : goal.of-requires
-of-requires g c κs = grind (arith, common_steps)
-
-pub overflow_add-stage : goal.overflow_add-stage
-overflow_add-stage g c = grind (arith, common_steps)
-
-pub returns-clause-only : goal.returns-clause-only
-returns-clause-only g c = grind (arith, common_steps)
-
-pub returns-clause-packets : goal.returns-clause-packets
-returns-clause-packets g c = grind (arith, common_steps)
-
-pub returns-in_err-to-clause-only : goal.returns-in_err-to-clause-only
-returns-in_err-to-clause-only g c = grind (arith, common_steps)
-
-pub returns-in_err-to-clause-packets : goal.returns-in_err-to-clause-packets
-returns-in_err-to-clause-packets g c = grind (arith, common_steps)

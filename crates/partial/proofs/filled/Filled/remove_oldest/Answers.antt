@@ -1,5 +1,4 @@
-use Rattle.std.proofs.Common.{◌∙◌, ap, reverse, Some, arith}
-use Rattle.std.proofs.lemmas.Grind.{common_steps}
+use Rattle.std.proofs.Common.{◌∙◌, ap, reverse, Some}
 use Rattle.partial.proofs.Reversed.{oldest_is, oldest_gone, rest_reversed}
 use Rattle.std.specs.Map.{lookup}
 use Rattle.partial.proofs.filled.Filled.remove_oldest.Goals as goal
@@ -14,12 +13,3 @@ pub returns-clause-gone : goal.returns-clause-gone
 returns-clause-gone g c =
     rw (← c.self.view_is) (λ k. ap (λ l. lookup (g.K.PartialEq.eq k) (reverse l.entries)) c.pop_lru.ensures.entries
     ∙ oldest_gone g.met.K.Eq.laws c.in_ok-key.key k c.in_ok-key.field-0-1 c.self.inside.latest.entries c.len.ensures.valid.0 c.in_ok-key.ensures.value)
-
-pub invariant_of-self : goal.invariant_of-self
-invariant_of-self g c = grind (arith, common_steps)
-
-pub invariant_of-self-2 : goal.invariant_of-self-2
-invariant_of-self-2 g c = grind (arith, common_steps)
-
-pub returns-in_err-key-clause-gone : goal.returns-in_err-key-clause-gone
-returns-in_err-key-clause-gone g c = grind (arith, common_steps)
