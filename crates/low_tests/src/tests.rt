@@ -5,3 +5,4 @@ mod indexes;
 mod packets;
 mod plans;
 mod rows;
+mod shards;

@@ -1,7 +1,14 @@
-//! Values and rows.
+//! Values, rows, bags, and rows by a column.
+ghost use Rattle.std.specs.Prelude.{◌≡◌, ◌∷◌, [], List, IfOk};
+ghost use Rattle.row.specs.{Cells.Cells, Cells.int, Changes.IsCovered, Groups.wide};
+
 use super::cells::Cell::{self, Int, Text};
 use super::cells::{row, value};
-use row::value::shard_of;
+use row::bag::Bag;
+use row::grouped::Grouped;
+use row::record::{Record, Sign};
+use row::row::Row;
+use row::value::{Value, shard_of};
 use std::alloc::{AllocError, Global};
 use std::cmp::Ordering;
 use std::test::Fail;
@@ -86,5 +93,91 @@ fn texts_are_quoted_where_they_have_to_be(rt: HostRuntime) -> Result<(), Fail> {
     for (text, quoted) in QUOTED {
         assert!(rt; is_printed(rt.alloc(), &[Text(text)], quoted)?, "{quoted}");
     }
+    Ok(())
+}
+
+/// Two rows that are alike, and another one.
+fn bag(alloc: Global) -> Result<Bag, AllocError> {
+    let mut bag = Bag::new(alloc);
+    for (first, second) in [(2, 0), (1, 7), (2, 0)] {
+        bag.add(row(alloc, &[Int(first), Int(second)])?)?;
+    }
+    Ok(bag)
+}
+
+/// Takes away one of the row, and says whether it was there.
+fn take(alloc: Global, bag: &mut Bag, cells: &[Cell]) -> Result<bool, AllocError> {
+    let row = row(alloc, cells)?;
+    let there = bag.contains(&row);
+    if there {
+        bag.subtract(&row);
+    }
+    Ok(there)
+}
+
+/// Whether these are the rows, with `;` behind each.
+fn are_rows(alloc: Global, rows: &[Row], text: &str) -> Result<bool, AllocError> {
+    let mut all = String::new(alloc);
+    for row in rows {
+        all.push_str(row.to_string(alloc)?.as_str())?;
+        all.push(';')?;
+    }
+    Ok(all.as_str() == text)
+}
+
+fn keeps_repeats(alloc: Global, bag: &mut Bag) -> Result<bool, AllocError> {
+    let copy = bag.try_clone(alloc)?;
+    let apart = bag.apart(alloc)?;
+    Ok(
+        are_rows(alloc, bag.rows(), "1 7;2 0;2 0;")?
+            && take(alloc, bag, &[Int(2), Int(0)])?
+            && !take(alloc, bag, &[Int(1), Int(8)])?
+            && are_rows(alloc, bag.rows(), "1 7;2 0;")?
+            && are_rows(alloc, copy.rows(), "1 7;2 0;2 0;")?
+            && are_rows(alloc, apart.rows(), "1 7;2 0;2 0;")?,
+    )
+}
+
+#[test]
+fn a_bag_keeps_repeats(rt: HostRuntime) -> Result<(), Fail> {
+    let mut bag = bag(rt.alloc())?;
+    assert!(rt; keeps_repeats(rt.alloc(), &mut bag)?);
+    Ok(())
+}
+
+/// A record of a row of these two numbers.
+fn signed(alloc: Global, id: i128, author: i128, sign: Sign) -> Result<Record, AllocError>
+    ensures { IfOk result (λ r. r ≡ record { row = int id ∷ int author ∷ []; sign = sign }) }
+{
+    let row = Row::new(alloc, vec![in alloc; Value::Int(id), Value::Int(author)]?)?;
+    Ok(Record { row, sign })
+}
+
+/// A change that takes row 2 away before it adds it.
+fn exchange(alloc: Global) -> Result<Vec<Record>, AllocError>
+    ensures { IfOk result (λ v. (rows : List Cells) → IsCovered rows (wide 1 v.items)) }
+{
+    let taken = signed(alloc, 2, 7, Sign::Minus)?;
+    let given = signed(alloc, 2, 7, Sign::Plus)?;
+    Ok(vec![in alloc; taken, given]?)
+}
+
+/// Adds three rows, and exchanges one.
+fn fill(found: &mut Grouped, alloc: Global) -> Result<(), AllocError>
+    requires { found.old.column ≡ 1 }
+{
+    found.add(alloc, &signed(alloc, 2, 7, Sign::Plus)?.row)?;
+    found.add(alloc, &signed(alloc, 1, 7, Sign::Plus)?.row)?;
+    found.add(alloc, &signed(alloc, 3, 8, Sign::Plus)?.row)?;
+    found.apply(alloc, exchange(alloc)?.as_slice())
+}
+
+#[test]
+fn rows_are_found_by_a_column(rt: HostRuntime) -> Result<(), Fail> {
+    let mut found = Grouped::new(rt.alloc(), 1);
+    fill(&mut found, rt.alloc())?;
+    assert!(rt; are_rows(rt.alloc(), found.rows_of(&Value::Int(7)), "1 7;2 7;")?);
+    assert!(rt; are_rows(rt.alloc(), found.rows_of(&Value::Int(8)), "3 8;")?);
+    assert!(rt; found.rows_of(&Value::Int(9)).is_empty());
     Ok(())
 }
