@@ -2,3 +2,4 @@ pub mod Due
 pub mod Replies
 pub mod Shows
 pub mod Starting
+pub mod Stepped

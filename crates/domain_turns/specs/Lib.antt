@@ -2,3 +2,4 @@ pub mod BaseTurns
 pub mod Fresh
 pub mod StageTurns
 pub mod ViewTurns
+pub mod Waits

@@ -1,8 +1,9 @@
-//! What a domain is made of before its first message, and one message of each kind of domain, with
-//! what becomes of it outside.
+//! What a domain is made of before its first message, one message of each kind of domain, with what
+//! becomes of it outside, and who waits for a key.
 #![tactic(auto)]
 
 pub mod base_turns;
 pub mod fresh;
 pub mod stage_turns;
 pub mod view_turns;
+pub mod waits;

@@ -1,2 +1,3 @@
 pub mod Queued
 pub mod Rings
+pub mod Turns

@@ -1,12 +1,13 @@
 //! The command line.
-ghost use Rattle.std.specs.Prelude.{◌≡◌, ◌≤◌, ◌==◌, is_some, map, not, string_bytes};
-ghost use Rattle.noria.specs.Arguments.{is_form, is_race, is_replay, is_run};
+ghost use Rattle.std.specs.Prelude.{◌≡◌, ◌≤◌, ◌==◌, map, not, string_bytes};
+ghost use Rattle.script.specs.Arguments.{is_form};
 
 use crate::fault::Fault;
 use crate::race::race_files;
 use crate::replay::replay_files;
 use crate::runner::run_files;
 use crate::texts::Texts;
+use script::arguments::{race_of, replay_of, run_of};
 use std::alloc::Global;
 use std::io::Write;
 use std::sync::Wait;
@@ -48,39 +49,5 @@ pub fn command<R: Threads + Wait + Copy + Drop + Send + 'static, T: Texts, O: Wr
             let _ = writeln!(err, "{fault}");
             1
         }
-    }
-}
-
-// The names of the recipe and the script, where the words are `run RECIPE SCRIPT`.
-fn run_of(words: &[String]) -> Option<(&str, &str)>
-    ensures { is_some result ≡ is_run (map string_bytes words.now) }
-{
-    match words {
-        [run, recipe, script] if run.as_str() == "run" => {
-            Some((recipe.as_str(), script.as_str()))
-        }
-        _ => None,
-    }
-}
-
-// The names of the recipe and the scripts, where the words are `race RECIPE SCRIPT..`.
-fn race_of(words: &[String]) -> Option<(&str, &[String])>
-    ensures { is_some result ≡ is_race (map string_bytes words.now) }
-{
-    match words {
-        [race, recipe, _, ..] if race.as_str() == "race" => Some((recipe.as_str(), &words[2..])),
-        _ => None,
-    }
-}
-
-// The names of the recipe and the schedule, where the words are `replay RECIPE SCHEDULE`.
-fn replay_of(words: &[String]) -> Option<(&str, &str)>
-    ensures { is_some result ≡ is_replay (map string_bytes words.now) }
-{
-    match words {
-        [replay, recipe, schedule] if replay.as_str() == "replay" => {
-            Some((recipe.as_str(), schedule.as_str()))
-        }
-        _ => None,
     }
 }

@@ -4,3 +4,4 @@ pub mod Commands
 pub mod Scripts
 pub mod Values
 pub mod Columns
+pub mod Arguments

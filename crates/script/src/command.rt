@@ -6,7 +6,7 @@ use crate::reader::Form;
 use std::alloc::{AllocError, Global};
 
 /// What a line of a script asks for.
-#[derive(PartialEq, Eq, Debug, Drop)]
+#[derive(Drop)]
 pub enum Command {
     /// `insert TABLE CELL..`: a row, of at least one cell, for the table.
     Insert { table: String, cells: Vec<String> },

@@ -32,7 +32,7 @@ impl ScriptError {
 }
 
 /// A call: the number of its line, from 1, and its command.
-#[derive(PartialEq, Eq, Debug, Drop)]
+#[derive(Drop)]
 pub struct Call<C = Command> {
     pub line: usize,
     pub command: C,

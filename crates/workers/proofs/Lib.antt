@@ -1,4 +1,2 @@
 pub mod Places
 pub mod Sent
-pub mod Stepped
-pub mod Waiting

@@ -5,7 +5,7 @@ use Rattle.std.proofs.lemmas.List.{length-map}
 use Rattle.packet.specs.Messages.{none_of}
 use Rattle.packet.specs.Outboxes.{EdgeView, packets_on}
 use Rattle.packet.proofs.Sends.{none_left}
-use Rattle.workers.proofs.Waiting.{AreEmpty}
+use Rattle.links.proofs.Waiting.{AreEmpty}
 
 module _ {X : Type 0} where
   set_other : (xss : List (List X)) (i k : ℕ) → k < i → slice_index_or (slice_set xss i []) k [] ≡ slice_index_or xss k []

@@ -5,7 +5,6 @@ ghost use Rattle.packet.specs.Outboxes.{IsClear};
 ghost use Rattle.domain_turns.specs.BaseTurns.{Went, log_in};
 
 use crate::gate::Gate;
-use crate::turns::Turns;
 use crate::worker::{Worker, send_each};
 use base_domain::base_domain::BaseDomain;
 use book::front::Front;
@@ -14,6 +13,7 @@ use book::log::Log;
 use domain_turns::base_turns::{BaseTurn, take_base};
 use domain_turns::fresh::fresh_base;
 use links::inbox::Inbox;
+use links::turns::Turns;
 use model::places::place_of;
 use packet::outbox::Outbox;
 use plan::domain::DomainId;

@@ -5,7 +5,6 @@ ghost use Rattle.stage_steps.specs.{Codes.message_of, Outboxes.AreEdges, Outboxe
 ghost use Rattle.domain_turns.specs.StageTurns.{Went};
 
 use crate::gate::Gate;
-use crate::turns::Turns;
 use crate::worker::{Worker, send_each};
 use book::front::Front;
 use book::law::Naming;
@@ -13,6 +12,7 @@ use book::part::Part;
 use domain_turns::fresh::fresh_stage;
 use domain_turns::stage_turns::take_stage;
 use links::inbox::Inbox;
+use links::turns::Turns;
 use packet::mode::Mode;
 use plan::domain::DomainId;
 use routes::mail::ViewMail;

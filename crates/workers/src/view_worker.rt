@@ -7,15 +7,15 @@ ghost use Rattle.shown.specs.{Boards.pending, Boards.shown, Snapshots.first_of};
 ghost use Rattle.view_domain.specs.Outboxes.{IsClear};
 
 use crate::gate::Gate;
-use crate::turns::Turns;
-use crate::waits::Waits;
 use crate::worker::{Worker, send_each};
 use book::front::Front;
 use book::law::Naming;
 use book::part::Part;
 use domain_turns::fresh::fresh_view;
 use domain_turns::view_turns::take_from_inbox;
+use domain_turns::waits::Waits;
 use links::inbox::Inbox;
+use links::turns::Turns;
 use packet::mode::Mode;
 use packet::reader::Reader;
 use plan::domain::DomainId;

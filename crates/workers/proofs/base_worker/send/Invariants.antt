@@ -1,6 +1,6 @@
 use Rattle.std.proofs.Common.{◌≡◌, None, length}
 use Rattle.packet.specs.Outboxes.{packets_on}
-use Rattle.workers.proofs.Waiting.{AreEmpty}
+use Rattle.links.proofs.Waiting.{AreEmpty}
 use Rattle.workers.proofs.base_worker.send.Given as goal
 
 abbrev pub invariant-loop-stage : goal.invariant-loop-stage

@@ -1,6 +1,6 @@
 use Rattle.std.proofs.Common.{◌≡◌, length}
 use Rattle.packet.specs.Outboxes.{packets_on}
-use Rattle.workers.proofs.Waiting.{AreEmpty}
+use Rattle.links.proofs.Waiting.{AreEmpty}
 use Rattle.workers.proofs.stage_worker.send_packets.Given as goal
 
 abbrev pub invariant-loop-reader : goal.invariant-loop-reader

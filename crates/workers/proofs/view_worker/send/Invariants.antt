@@ -1,6 +1,6 @@
 use Rattle.std.proofs.Common.{◌≡◌, length}
 use Rattle.packet.specs.Outboxes.{packets_on}
-use Rattle.workers.proofs.Waiting.{AreEmpty}
+use Rattle.links.proofs.Waiting.{AreEmpty}
 use Rattle.workers.proofs.view_worker.send.Given as goal
 
 abbrev pub invariant-loop-stage : goal.invariant-loop-stage

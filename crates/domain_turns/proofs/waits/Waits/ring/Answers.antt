@@ -1,8 +1,8 @@
 use Rattle.std.proofs.Common.{◌≡◌, ◌<◌, None, length, sym, ◌∙◌, arith}
-use Rattle.workers.specs.Waits.{waiting_on}
-use Rattle.workers.proofs.Stepped.{changed, ended, kept_length, stayed}
-use Rattle.workers.proofs.waits.Waits.ring.Goals.{in-Some, in_default}
-use Rattle.workers.proofs.waits.Waits.ring.Goals as goal
+use Rattle.domain_turns.specs.Waits.{waiting_on}
+use Rattle.domain_turns.proofs.Stepped.{changed, ended, kept_length, stayed}
+use Rattle.domain_turns.proofs.waits.Waits.ring.Goals.{in-Some, in_default}
+use Rattle.domain_turns.proofs.waits.Waits.ring.Goals as goal
 
 pub filled-requires : goal.filled-requires
 filled-requires g c =

@@ -1,5 +1,5 @@
 use Rattle.std.proofs.Common.{◌≡◌, None, replicate}
-use Rattle.workers.proofs.waits.Waits.new.Given as goal
+use Rattle.domain_turns.proofs.waits.Waits.new.Given as goal
 
 abbrev pub invariant-loop : goal.invariant-loop
 invariant-loop l = l.places.items ≡ replicate l.counter None

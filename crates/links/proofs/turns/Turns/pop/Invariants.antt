@@ -1,6 +1,6 @@
 use Rattle.std.proofs.Common.{◌≡◌}
-use Rattle.workers.proofs.Waiting.{AreEmpty}
-use Rattle.workers.proofs.turns.Turns.pop.Given as goal
+use Rattle.links.proofs.Waiting.{AreEmpty}
+use Rattle.links.proofs.turns.Turns.pop.Given as goal
 
 abbrev pub invariant-loop-edge : goal.invariant-loop-edge
 invariant-loop-edge g l = record {

@@ -2,7 +2,7 @@
 use Rattle.std.proofs.Common.{◌≡◌, ℕ, zero, suc, ◌+◌, ◌<◌, ◌≤◌, false, List, [], ◌∷◌, Option, Some, None, IfSome, drop, length, slice_get, slice_set, slice_index_or, refl, sym, ◌∙◌, subst, arith}
 use borrow.Author.Count.{below_more}
 use Rattle.links.specs.Queued.{holds_any}
-use Rattle.workers.specs.Turns.{IsFirst}
+use Rattle.links.specs.Turns.{IsFirst}
 
 module _ {X : Type 0} where
   -- from the one edge to the other none has a message

@@ -4,7 +4,7 @@ use Rattle.row.specs.Cells.{Cells}
 use Rattle.row.specs.declared.value.Value.{Value}
 use Rattle.partial.specs.States.{Kept}
 use Rattle.view_domain.specs.Shown.{rows_at}
-use Rattle.workers.specs.declared.waits.Waiting.{Waiting}
+use Rattle.domain_turns.specs.declared.waits.Waiting.{Waiting}
 
 -- a session goes on waiting while its key is not filled
 abbrev pub waiting_on : Kept Value (List Cells) → Option Waiting → Option Waiting

@@ -1,6 +1,6 @@
 //! Sessions that wait for keys of a view shard.
 ghost use Rattle.std.specs.Prelude.{◌≡◌, ◌<◌, length, map, replicate, slice_index_or, slice_set, IfNone, IfOk, IfSome};
-ghost use Rattle.workers.specs.Waits.{waiting_on};
+ghost use Rattle.domain_turns.specs.Waits.{waiting_on};
 
 use book::front::Front;
 use book::law::Naming;
@@ -27,7 +27,7 @@ pub struct Waits {
 
 impl Model for Waits {
     ghost use Rattle.std.specs.Prelude.{List, Option};
-    ghost use Rattle.workers.specs.declared.waits.Waiting.{Waiting};
+    ghost use Rattle.domain_turns.specs.declared.waits.Waiting.{Waiting};
 
     ghost Value = { List (Option Waiting) };
 

@@ -1,10 +1,10 @@
 //! The order in which a thread takes what comes to it.
 ghost use Rattle.std.specs.Prelude.{◌≡◌, ◌+◌, [], false, min, length, replicate, IfNone, IfOk, IfSome};
 ghost use Rattle.links.specs.Queued.{holds_any};
-ghost use Rattle.workers.specs.Turns.{IsFirst, IsNext};
+ghost use Rattle.links.specs.Turns.{IsFirst, IsNext};
 
-use links::inbox::{Inbox, Taking};
-use links::queues::Queues;
+use crate::inbox::{Inbox, Taking};
+use crate::queues::Queues;
 use std::alloc::{AllocError, Global};
 use std::marker::Model;
 use std::sync::Wait;
@@ -20,7 +20,7 @@ pub struct Turns<T: Drop> {
 }
 
 impl<T: Drop> Model for Turns<T> {
-    ghost use Rattle.workers.specs.Turns.{TurnsView};
+    ghost use Rattle.links.specs.Turns.{TurnsView};
 
     ghost Value = { TurnsView T };
 

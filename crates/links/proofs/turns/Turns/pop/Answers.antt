@@ -1,7 +1,7 @@
 use Rattle.std.proofs.Common.{length, ap, arith}
-use Rattle.workers.specs.Turns.{TurnsView}
-use Rattle.workers.proofs.Waiting.{all_from}
-use Rattle.workers.proofs.turns.Turns.pop.Goals as goal
+use Rattle.links.specs.Turns.{TurnsView}
+use Rattle.links.proofs.Waiting.{all_from}
+use Rattle.links.proofs.turns.Turns.pop.Goals as goal
 
 pub returns-clause-none : goal.returns-clause-none
 returns-clause-none g c =
