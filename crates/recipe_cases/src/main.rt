@@ -3,14 +3,15 @@
 //! whether the row, in words of a script, passes the conditions of that side.
 #![tactic(auto)]
 
+mod cases;
 mod plans;
 mod rows;
+mod words;
 
-use crate::plans::Plans;
-use cases::case::write_cases;
+use crate::cases::write_cases;
 use std::io;
 
 fn main(rt: HostRuntime) -> io::Result<()> {
     let text = io::read_to_string(rt.alloc(), rt.stdin())?;
-    write_cases::<Plans, _>(rt.alloc(), &text, &mut rt.stdout())
+    write_cases(rt.alloc(), &text, &mut rt.stdout())
 }

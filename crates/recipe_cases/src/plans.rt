@@ -1,6 +1,4 @@
 //! A plan, as it is printed: a line for each of its parts.
-use crate::rows::write_row;
-use cases::case::{Answers, Case};
 use plan::kinds::{Aggregate, Kind};
 use plan::plan::{Plan, ViewPlan};
 use plan::stage::Side;
@@ -8,21 +6,8 @@ use plan::table::Table;
 use std::alloc::Global;
 use std::io::{self, Write};
 
-/// The plan of a case, and whether each row that it asks of passes.
-pub struct Plans;
-
-impl Answers for Plans {
-    fn write<'t, W: Write>(alloc: Global, case: &Case<'t>, out: &mut W) -> io::Result<()> {
-        write_plan(alloc, &case.plan, out)?;
-        for row in &case.questions {
-            write_row(alloc, &case.plan, row, out)?;
-        }
-        Ok(())
-    }
-}
-
-// Prints the tables, the stage, the views, and the tags and edges.
-fn write_plan<W: Write>(alloc: Global, plan: &Plan, out: &mut W) -> io::Result<()> {
+/// Prints the tables, the stage, the views, and the tags and edges.
+pub fn write_plan<W: Write>(alloc: Global, plan: &Plan, out: &mut W) -> io::Result<()> {
     for at in 0..plan.tables() {
         write_table(plan.table(at), out)?;
     }

@@ -1,6 +1,6 @@
 //! A row of a side of the stage, and whether it passes the side's conditions.
 use crate::plans::table_name;
-use cases::words::words_of;
+use crate::words::words_of;
 use plan::plan::Plan;
 use script::columns::row_of;
 use std::alloc::Global;

@@ -10,7 +10,7 @@ use sessions::session::Session;
 use std::alloc::{AllocError, Global};
 use std::sync::Wait;
 use std::test::Fail;
-use std::thread::{self, Threads};
+use std::thread::{self, JoinHandle, Threads};
 use system::system::System;
 
 // A thread to which memory was refused has stopped.
@@ -65,18 +65,19 @@ impl<J: Naming + Send + Sync + 'static, R: Threads + Wait + Copy + Drop + Send +
     // What comes of each of these, all of which are done at once, by sessions in threads of their
     // own.
     pub fn at_once<W: Work>(&mut self, works: &[W]) -> Result<Vec<W::Given>, Fail> {
-        let (rt, alloc) = (self.rt, self.alloc);
-        let mut threads = Vec::new(alloc);
+        let mut threads = Vec::new(self.alloc);
         for work in works {
-            let (work, session) = (*work, self.session().map_err(fail)?);
-            let calls = move || work.make(&mut Caller { rt, alloc, session });
-            threads.push(thread::spawn(&rt, calls)?)?;
+            threads.push(self.start(*work)?)?;
         }
-        let mut given = Vec::new(alloc);
-        for thread in threads {
-            given.push(thread.join(&rt).map_err(fail)?)?;
-        }
-        Ok(given)
+        all_given::<W, R>(&self.rt, self.alloc, threads)
+    }
+
+    // Starts one of them.
+    fn start<W: Work>(&mut self, work: W) -> Result<Thread<W>, Fail> {
+        let (rt, alloc) = (self.rt, self.alloc);
+        let session = self.session().map_err(fail)?;
+        let calls = move || work.make(&mut Caller { rt, alloc, session });
+        Ok(thread::spawn(&rt, calls)?)
     }
 
     pub fn stop(self) {
@@ -84,6 +85,22 @@ impl<J: Naming + Send + Sync + 'static, R: Threads + Wait + Copy + Drop + Send +
         system.stop(&rt);
     }
 }
+
+// What the threads give, in order.
+fn all_given<W: Work, R: Threads + Wait>(
+    rt: &R,
+    alloc: Global,
+    threads: Vec<Thread<W>>,
+) -> Result<Vec<W::Given>, Fail> {
+    let mut given = Vec::new(alloc);
+    for thread in threads {
+        given.push(thread.join(rt).map_err(fail)?)?;
+    }
+    Ok(given)
+}
+
+/// A thread that does a work.
+type Thread<W> = JoinHandle<Result<<W as Work>::Given, Refused>>;
 
 /// What a session does beside others.
 pub trait Work: Copy + Send + 'static {

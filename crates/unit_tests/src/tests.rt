@@ -1,8 +1,12 @@
 //! The tests.
 mod cells;
 mod cuts;
+mod gaps;
+mod inboxes;
 mod indexes;
 mod packets;
 mod plans;
 mod rows;
+mod sessions;
 mod shards;
+mod threads;

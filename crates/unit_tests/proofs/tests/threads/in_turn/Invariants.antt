@@ -1,5 +1,5 @@
 use Rattle.std.proofs.Common.{◌≡◌, length}
-use Rattle.links_tests.proofs.threads.in_turn.Given as goal
+use Rattle.unit_tests.proofs.tests.threads.in_turn.Given as goal
 
 abbrev pub invariant-loop : goal.invariant-loop
 invariant-loop l = length l.queues ≡ length l.fn.queues

@@ -2,7 +2,7 @@
 ghost use Rattle.std.specs.Prelude.{◌≡◌, [], IfOk};
 ghost use Rattle.plan.specs.Recipes.{notes_plan};
 ghost use Rattle.stage_steps.specs.Codes.{message_of};
-ghost use Rattle.domain_tests.specs.Notes.{note_row, no_notes, one_note, AreOne, IsFirstStage, IsForFirst};
+ghost use Rattle.unit_tests.specs.Notes.{note_row, no_notes, one_note, AreOne, IsFirstStage, IsForFirst};
 
 use model::entry::Entry;
 use model::fronts::{Found, Fronts};

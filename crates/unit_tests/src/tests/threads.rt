@@ -1,8 +1,8 @@
 //! Inboxes between threads.
 ghost use Rattle.std.specs.Prelude.{◌≡◌, length};
 
-use crate::inboxes::{pair, put};
-use crate::sessions::lets_others_go_on;
+use super::inboxes::{pair, put};
+use super::sessions::lets_others_go_on;
 use links::inbox::{Inbox, Taking};
 use links::queues::Queues;
 use row::refused::Refused;
