@@ -3,9 +3,7 @@ ghost use Rattle.std.specs.Prelude.{◌≡◌, ◌≤◌, ◌==◌, map, not, st
 ghost use Rattle.script.specs.Arguments.{is_form};
 
 use crate::fault::Fault;
-use crate::race::race_files;
-use crate::replay::replay_files;
-use crate::runner::run_files;
+use crate::forms::{race_files, replay_files, run_files};
 use crate::texts::Texts;
 use script::arguments::{race_of, replay_of, run_of};
 use std::alloc::Global;

@@ -1,18 +1,11 @@
 //! The program: sessions run scripts over the plan of a recipe, or one thread runs a schedule.
 #![tactic(auto)]
 
-mod answers;
 mod command;
 mod fault;
 mod files;
-mod orders;
-mod play;
-mod race;
-mod reads;
-mod replay;
-mod runner;
+mod forms;
 mod texts;
-mod writes;
 
 use crate::command::command;
 use crate::fault::Fault;

@@ -1,4 +1,4 @@
-use Rattle.noria.proofs.play.start.Given as goal
+use Rattle.runner.proofs.play.start.Given as goal
 
 -- the book that was just opened
 abbrev pub ghosts-start_named : goal.ghosts-start_named

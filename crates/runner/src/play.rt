@@ -1,16 +1,15 @@
 //! Starts the store of a plan, and plays scripts in its sessions.
 ghost use Rattle.std.specs.Prelude.{◌≡◌, ◌<◌, IfOk};
 
-use crate::fault::Fault;
+use crate::answers::answer;
 use crate::race::race;
-use crate::runner::run_calls;
 use book::book::Opened;
 use book::law::Naming;
 use plan::plan::Plan;
 use row::refused::Refused;
 use script::script::Call;
 use std::alloc::Global;
-use std::io::Write;
+use std::io::{BufWriter, Write};
 use std::marker::Brand;
 use std::sync::Wait;
 use std::thread::Threads;
@@ -23,36 +22,37 @@ const SCRIPTS: usize = 15;
 /// What the sessions of a store do.
 #[derive(Drop)]
 pub enum Play {
-    /// One session makes these calls in turn.
+    /// One session makes these calls in turn, and the lines of each answer are written.
     Run(Vec<Call>),
-    /// Each script runs in a session and a thread of its own; then one session more makes the
-    /// closing fence and reads.
+    /// Each script runs in a session and a thread of its own, all at once; what each came to is
+    /// written. Then one session more, which has met all others, makes the closing fence and the
+    /// closing reads of all scripts in order, and the lines of their answers are written.
     Race(Vec<Vec<Call>>),
 }
 
-/// Starts the plan, plays, and writes the answers. `NoSessionLeft` where more than fifteen scripts
-/// race, and nothing is started. All threads that it starts have ended.
+/// Starts the plan, plays, and writes the answers. A refused call is a line too, or counted, and the
+/// script goes on. Errors: `NoSessionLeft` where more than fifteen scripts race, and nothing is
+/// started; `NoMemory`; `CannotWrite`, and then no further call is made. All threads that it starts
+/// have ended.
 pub fn start<R: Threads + Wait + Copy + Drop + Send + 'static, O: Write>(
     rt: R,
     alloc: Global,
     plan: Plan,
     play: Play,
     out: &mut O,
-) -> Result<(), Fault> {
+) -> Result<(), Refused> {
     let sessions = sessions_of(&play)?;
     let opened = Opened::new(alloc, &plan, sessions)?;
     start_named::<Brand, R, O>(rt, alloc, opened, plan, sessions, play, out)
 }
 
 // How many sessions it takes.
-fn sessions_of(play: &Play) -> Result<usize, Fault>
+fn sessions_of(play: &Play) -> Result<usize, Refused>
     ensures { IfOk result (λ n. n < 17) }
 {
     match play {
         Play::Run(_) => Ok(1),
-        Play::Race(scripts) if scripts.len() > SCRIPTS => {
-            Err(Fault::Refused(Refused::NoSessionLeft))
-        }
+        Play::Race(scripts) if scripts.len() > SCRIPTS => Err(Refused::NoSessionLeft),
         Play::Race(scripts) => Ok(scripts.len() + 1),
     }
 }
@@ -69,17 +69,34 @@ fn start_named<
     sessions: usize,
     play: Play,
     out: &mut O,
-) -> Result<(), Fault>
+) -> Result<(), Refused>
     requires book { opened.book ≡ J.book }
     requires plan { (opened.plan ≡ J.plan) × (plan ≡ J.plan) }
     requires sessions { (opened.sessions ≡ J.sessions) × (sessions ≡ J.sessions) }
     requires few { sessions < 17 }
 {
+    let mut out = BufWriter::new(alloc, out).map_err(|_| Refused::NoMemory)?;
     let mut system = System::<J>::start(rt, alloc, opened, plan, sessions, OpenGate)?;
     let played = match play {
-        Play::Run(calls) => run_calls(&rt, alloc, &mut system, calls, out),
-        Play::Race(scripts) => race(rt, alloc, &mut system, scripts, out),
+        Play::Run(calls) => run(&rt, alloc, &mut system, calls, &mut out),
+        Play::Race(scripts) => race(rt, alloc, &mut system, scripts, &mut out),
     };
     system.stop(&rt);
-    played
+    played?;
+    out.flush().map_err(|_| Refused::CannotWrite)
+}
+
+// Makes the calls in a session, and writes the answer of each.
+fn run<J: Naming + Send + Sync + 'static, R: Wait, O: Write>(
+    rt: &R,
+    alloc: Global,
+    system: &mut System<J>,
+    calls: Vec<Call>,
+    out: &mut O,
+) -> Result<(), Refused> {
+    let mut session = system.session(alloc)?;
+    for call in calls {
+        answer(rt, alloc, &mut session, call.command, out)?;
+    }
+    Ok(())
 }

@@ -8,7 +8,7 @@ use std::alloc::Global;
 use std::sync::Wait;
 
 /// Orders the stage shard to forget the stage key that the word is.
-pub fn evict_stage<J: Naming, R: Wait>(
+pub(crate) fn evict_stage<J: Naming, R: Wait>(
     rt: &R,
     alloc: Global,
     session: &mut Session<J>,
@@ -19,7 +19,7 @@ pub fn evict_stage<J: Naming, R: Wait>(
 }
 
 /// Orders the view's shard to forget the key that the word is.
-pub fn evict_view<J: Naming, R: Wait>(
+pub(crate) fn evict_view<J: Naming, R: Wait>(
     rt: &R,
     alloc: Global,
     session: &mut Session<J>,

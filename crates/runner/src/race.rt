@@ -1,40 +1,15 @@
 //! Races scripts: all of them at once, each in a session and a thread of its own.
 use crate::answers::{Answered, answer, make};
-use crate::fault::Fault;
-use crate::files::{calls_named, plan_named};
-use crate::play::{Play, start};
-use crate::texts::Texts;
 use book::law::Naming;
 use row::refused::Refused;
 use script::command::Command;
 use script::script::Call;
 use sessions::session::Session;
 use std::alloc::Global;
-use std::io::{BufWriter, Write};
+use std::io::Write;
 use std::sync::Wait;
 use std::thread::{self, JoinHandle, Threads};
 use system::system::System;
-
-/// Reads and checks the recipe and then the scripts of these names, starts the recipe's plan, and
-/// runs all scripts at once. It writes what each came to, then makes one fence in a session that
-/// has met all others, and the closing reads of all scripts in order. `NoSessionLeft` where there
-/// are more than fifteen scripts. All threads that it starts have ended.
-pub fn race_files<R: Threads + Wait + Copy + Drop + Send + 'static, T: Texts, O: Write>(
-    rt: R,
-    alloc: Global,
-    recipe: &str,
-    scripts: &[String],
-    texts: &mut T,
-    out: &mut O,
-) -> Result<(), Fault> {
-    let plan = plan_named(alloc, recipe, texts)?;
-    let mut all = Vec::new(alloc);
-    for script in scripts {
-        let calls = calls_named(alloc, script.as_str(), texts)?;
-        all.push(calls).map_err(|_| Refused::NoMemory)?;
-    }
-    start(rt, alloc, plan, Play::Race(all), out)
-}
 
 // What a script came to: its session, how many writes were accepted and calls refused, and its
 // closing reads, which were not made yet.
@@ -48,7 +23,7 @@ struct Raced<J: Naming> {
 
 // Runs all scripts at once, and writes what each came to. Then a session that has met all others makes
 // one fence, and the closing reads of all scripts in order.
-pub fn race<
+pub(crate) fn race<
     J: Naming + Send + Sync + 'static,
     R: Threads + Wait + Copy + Drop + Send + 'static,
     O: Write,
@@ -58,10 +33,10 @@ pub fn race<
     system: &mut System<J>,
     scripts: Vec<Vec<Call>>,
     out: &mut O,
-) -> Result<(), Fault> {
+) -> Result<(), Refused> {
     let raced = run_all(rt, alloc, system, scripts)?;
     let mut session = system.session(alloc)?;
-    tell_buffered(&rt, alloc, &mut session, raced, out)
+    tell(&rt, alloc, &mut session, raced, out)
 }
 
 // Runs all scripts at once, and waits for all of them, also where one was not started.
@@ -70,12 +45,12 @@ fn run_all<J: Naming + Send + Sync + 'static, R: Threads + Wait + Copy + Drop + 
     alloc: Global,
     system: &mut System<J>,
     scripts: Vec<Vec<Call>>,
-) -> Result<Vec<Raced<J>>, Fault> {
+) -> Result<Vec<Raced<J>>, Refused> {
     let mut runners = Vec::with_capacity(alloc, scripts.len())?;
     let started = start_all(rt, alloc, system, scripts, &mut runners);
     let raced = join_all(&rt, alloc, runners);
     started?;
-    Ok(raced?)
+    raced
 }
 
 // Starts a thread for each script, with a session of its own.
@@ -85,7 +60,7 @@ fn start_all<J: Naming + Send + Sync + 'static, R: Threads + Wait + Copy + Drop 
     system: &mut System<J>,
     scripts: Vec<Vec<Call>>,
     runners: &mut Vec<JoinHandle<Result<Raced<J>, Refused>>>,
-) -> Result<(), Fault> {
+) -> Result<(), Refused> {
     for calls in scripts {
         let session = system.session(alloc)?;
         let work = move || run_script(&rt, alloc, session, calls);
@@ -156,20 +131,6 @@ fn run_call<J: Naming, R: Wait>(
     Ok(())
 }
 
-// As `tell`, through a buffer that is flushed at the end.
-fn tell_buffered<J: Naming, R: Wait, O: Write>(
-    rt: &R,
-    alloc: Global,
-    session: &mut Session<J>,
-    raced: Vec<Raced<J>>,
-    out: &mut O,
-) -> Result<(), Fault> {
-    let mut out = BufWriter::new(alloc, out).map_err(|_| Refused::NoMemory)?;
-    tell(rt, alloc, session, raced, &mut out)?;
-    out.flush()
-        .map_err(|_| Fault::Refused(Refused::CannotWrite))
-}
-
 // Writes what each script came to, meets all sessions, and makes the closing fence and reads.
 fn tell<J: Naming, R: Wait, O: Write>(
     rt: &R,
@@ -177,7 +138,7 @@ fn tell<J: Naming, R: Wait, O: Write>(
     session: &mut Session<J>,
     raced: Vec<Raced<J>>,
     out: &mut O,
-) -> Result<(), Fault> {
+) -> Result<(), Refused> {
     let mut closings = Vec::new(alloc);
     for (number, mut one) in raced.into_iter().enumerate() {
         tell_one(number, &mut one, session, out)?;
@@ -212,7 +173,7 @@ fn answer_all<J: Naming, R: Wait, O: Write>(
     session: &mut Session<J>,
     commands: Vec<Command>,
     out: &mut O,
-) -> Result<(), Fault> {
+) -> Result<(), Refused> {
     for command in commands {
         answer(rt, alloc, session, command, out)?;
     }

@@ -10,7 +10,7 @@ use std::io::{self, Write};
 use std::sync::Wait;
 
 /// The rows of the key that the word is in the view: `read`, or else tried where they are shown.
-pub fn look<J: Naming, R: Wait>(
+pub(crate) fn look<J: Naming, R: Wait>(
     rt: &R,
     alloc: Global,
     session: &mut Session<J>,
@@ -27,7 +27,7 @@ pub fn look<J: Naming, R: Wait>(
 }
 
 /// Writes `rows N cut CUT` and a line for each of the N rows, or `miss`.
-pub fn write_found<O: Write>(found: &Found, out: &mut O) -> io::Result<()> {
+pub(crate) fn write_found<O: Write>(found: &Found, out: &mut O) -> io::Result<()> {
     match found {
         Found::Hit(answer) => write_rows(answer, out),
         Found::Miss => writeln!(out, "miss"),

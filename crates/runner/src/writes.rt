@@ -10,14 +10,14 @@ use std::sync::Wait;
 
 /// The words of a write behind its table: the cells of a row, or a key.
 #[derive(Drop)]
-pub enum Words {
+pub(crate) enum Words {
     Insert(Vec<String>),
     Update(Vec<String>),
     Delete(String),
 }
 
 /// Makes the write that the words ask for.
-pub fn write<J: Naming, R: Wait>(
+pub(crate) fn write<J: Naming, R: Wait>(
     rt: &R,
     alloc: Global,
     session: &mut Session<J>,

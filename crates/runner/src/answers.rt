@@ -1,5 +1,4 @@
 //! A call of a script: what a session makes of it, and the lines of its answer.
-use crate::fault::Fault;
 use crate::orders::{evict_stage, evict_view};
 use crate::reads::{look, write_found};
 use crate::writes::{Words, write};
@@ -14,7 +13,7 @@ use std::sync::Wait;
 
 /// What a call that is not refused answers.
 #[derive(Drop)]
-pub enum Answered {
+pub(crate) enum Answered {
     Accepted { table: String, accepted: Accepted },
     Fenced,
     Found(Found),
@@ -23,7 +22,7 @@ pub enum Answered {
 }
 
 /// Makes the call in a session. A `closing` is a read at its place.
-pub fn make<J: Naming, R: Wait>(
+pub(crate) fn make<J: Naming, R: Wait>(
     rt: &R,
     alloc: Global,
     session: &mut Session<J>,
@@ -84,15 +83,15 @@ fn make_look<J: Naming, R: Wait>(
 }
 
 /// Makes the call in a session, and writes the lines of its answer or refusal.
-pub fn answer<J: Naming, R: Wait, O: Write>(
+pub(crate) fn answer<J: Naming, R: Wait, O: Write>(
     rt: &R,
     alloc: Global,
     session: &mut Session<J>,
     command: Command,
     out: &mut O,
-) -> Result<(), Fault> {
+) -> Result<(), Refused> {
     let answered = make(rt, alloc, session, command);
-    write_answer(answered, out).map_err(|_| Fault::Refused(Refused::CannotWrite))
+    write_answer(answered, out).map_err(|_| Refused::CannotWrite)
 }
 
 // Writes the lines of an answer, or of a refusal.
@@ -106,6 +105,6 @@ fn write_answer<O: Write>(answer: Result<Answered, Refused>, out: &mut O) -> io:
         Ok(Answered::Found(found)) => write_found(&found, out),
         Ok(Answered::Sent) => writeln!(out, "sent"),
         Ok(Answered::Asked(asked)) => writeln!(out, "asked {asked}"),
-        Err(refused) => writeln!(out, "{}", Fault::Refused(refused)),
+        Err(refused) => writeln!(out, "refused {} {refused}", refused.number()),
     }
 }
