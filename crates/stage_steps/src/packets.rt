@@ -72,7 +72,9 @@ fn push_view<'a, F: Fronts>(
         news.now.records.now (names_in news.now.names.now) (mark_in news.now.marker))
         (readers_of news.now.plan.now view)) }
 {
-    for shard in 0..news.plan.view(view).shards() {
+    let shards = news.plan.view(view).shards();
+    all.reserve_exact(shards)?;
+    for shard in 0..shards {
         let packet = packet_to(alloc, news, each, Reader { view, shard })?;
         all.push(packet)?;
     }

@@ -19,6 +19,6 @@ loop-shard-preserved g c =
 pub returns : goal.returns
 returns g c =
     let n = c.args.news.now in
-    let count : c.loop-shard.shard ≡ c.view.result.now.shards = omega (arith, c.loop-shard-test.false, c.loop-shard.auto.shard-end, c.shards-shard-end.ensures) in
+    let count : c.loop-shard.shard ≡ c.view.result.now.shards = omega (arith, c.loop-shard-test.false, c.loop-shard.auto.shard-end, c.shards-shards.ensures) in
     let f = told_if c.args.each n.plan.now n.stage (entries_of n.from.now) (entries_of n.to.now) n.records.now (names_in n.names.now) (mark_in n.marker) in
     subst (λ k. c.loop-shard.all.items ≡ c.args.all.now.items ++ map f (map (λ j. record { view = c.args.view; shard = j }) (range_with_len 0 k))) (count ∙ ap (λ (v : ViewLayout). v.shards) c.view.ensures) c.loop-shard.invariant
