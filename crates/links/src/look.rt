@@ -14,5 +14,6 @@ pub fn look(ready: &AtomicBool) {
     }
 }
 
-/// A look that gives way to nobody takes a third of a microsecond, and a sleep with its wake several.
+/// A look that gives way to nobody takes a quarter of a microsecond; a sleep and its wake take
+/// several.
 const LOOKS: u32 = 32;
