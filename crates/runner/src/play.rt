@@ -75,14 +75,23 @@ fn start_named<
     requires sessions { (opened.sessions ≡ J.sessions) × (sessions ≡ J.sessions) }
     requires few { sessions < 17 }
 {
-    let mut out = BufWriter::new(alloc, out).map_err(|_| Refused::NoMemory)?;
     let mut system = System::<J>::start(rt, alloc, opened, plan, sessions, OpenGate)?;
-    let played = match play {
-        Play::Run(calls) => run(&rt, alloc, &mut system, calls, &mut out),
-        Play::Race(scripts) => race(rt, alloc, &mut system, scripts, &mut out),
-    };
+    let played = play_buffered(rt, alloc, &mut system, play, out);
     system.stop(&rt);
-    played?;
+    played
+}
+
+// Plays in sessions of the system, through a buffer that is flushed at the end.
+fn play_buffered<
+    J: Naming + Send + Sync + 'static,
+    R: Threads + Wait + Copy + Drop + Send + 'static,
+    O: Write,
+>(rt: R, alloc: Global, system: &mut System<J>, play: Play, out: &mut O) -> Result<(), Refused> {
+    let mut out = BufWriter::new(alloc, out).map_err(|_| Refused::NoMemory)?;
+    match play {
+        Play::Run(calls) => run(&rt, alloc, system, calls, &mut out)?,
+        Play::Race(scripts) => race(rt, alloc, system, scripts, &mut out)?,
+    }
     out.flush().map_err(|_| Refused::CannotWrite)
 }
 
