@@ -1,5 +1,6 @@
 -- A group with one record more, and a new one.
-use Rattle.std.proofs.Common.{◌≡◌, Bool, true, false, cond, ◌||◌, List, [], ◌∷◌, ◌++◌, Some, None, map, filter, refl, ap, sym, ◌∙◌}
+use Rattle.std.proofs.Common.{◌≡◌, Bool, true, false, cond, ◌||◌, List, [], ◌∷◌, ◌++◌, Option, Some, None, is_some, map, filter, refl, ap, sym, ◌∙◌}
+use Rattle.std.specs.HashMap.{HashMap}
 use Rattle.std.specs.Map.{lookup, set_value}
 use Rattle.row.specs.Cells.{Datum, datum_of, same}
 use Rattle.row.specs.Groups.{equal}
@@ -8,8 +9,6 @@ use Rattle.row.specs.declared.value.Value.{Value}
 use Rattle.row.proofs.Cellwise.{eq-value_is}
 use Rattle.row.proofs.Keys.{equal_is, same_flip}
 use Rattle.row.proofs.Shards.{same_is}
-use Rattle.indexmap.specs.IndexMap.{IndexMap, insert_entry}
-use Rattle.indexmap.proofs.CallerLemmas.{insert_entry-new}
 use Rattle.packet.specs.Keys.{is_among}
 use Rattle.packet.specs.Messages.{KeyedRecord}
 use Rattle.packet.specs.Truth.{changes_at}
@@ -21,17 +20,33 @@ by_datum key xs = λ i. lookup (λ y. eq-value_is key y i) xs
 flipped : (a b : Datum) (x : Bool) → same a b ≡ x → same b a ≡ x
 flipped a b x h = same_flip b a ∙ h
 
-lookup_other : {K X : Type 0} (test : K → Bool) (xs : List (K × X)) (key : K) (x : X) → test key ≡ false → lookup test (xs ++ (key, x) ∷ []) ≡ lookup test xs
-lookup_other test [] key x h = rw h refl
-lookup_other test (e ∷ es) key x h = ap (cond (test e.0) (Some e.1)) (lookup_other test es key x h)
+-- the value at the key that stands for a datum
+abbrev at : {X : Type 0} → Datum → List (Value × X) → Option X
+at d es = lookup (λ y. same d (datum_of y)) es
 
-lookup_new : {K X : Type 0} (test : K → Bool) (xs : List (K × X)) (key : K) (x : X) → test key ≡ true → lookup test xs ≡ None → lookup test (xs ++ (key, x) ∷ []) ≡ Some x
-lookup_new test [] key x h n = rw h refl
-lookup_new test (e ∷ es) key x h n = step (test e.0) (λ m. lookup_new test es key x h m) n
+-- a datum is that of a key, or is not there
+named_or : {X P : Type 0} (d : Datum) (es : List (Value × X)) → ((y : Value) → d ≡ datum_of y → P) → (at d es ≡ None → P) → P
+named_or d [] known none = none refl
+named_or {X} {P} d (e ∷ es) known none = step (same d (datum_of e.0)) refl (named_or d es known)
   where
-    step : (b : Bool) → (lookup test es ≡ None → lookup test (es ++ (key, x) ∷ []) ≡ Some x) → cond b (Some e.1) (lookup test es) ≡ None → cond b (Some e.1) (lookup test (es ++ (key, x) ∷ [])) ≡ Some x
-    step true rest n = cc
-    step false rest n = rest n
+    step : (b : Bool) → same d (datum_of e.0) ≡ b → ((at d es ≡ None → P) → P) → P
+    step true h rest = known e.0 (same_is d (datum_of e.0) h)
+    step false h rest = rest (λ n. none (rw h n))
+
+-- what is put at a key is at its datum, and elsewhere is what was there
+module _ {X : Type 0} (old new : List (Value × X)) (key : Value) (x : X) (put : (q : Value) → lookup (equal q) new ≡ cond (equal key q) (Some x) (lookup (equal q) old)) where
+  at_named : (y : Value) (d : Datum) → d ≡ datum_of y → at d new ≡ cond (same (datum_of key) d) (Some x) (at d old)
+  at_named y d e = rw e (sym (by_datum y new) ∙ (put y ∙ (λ i. cond (eq-value_is key y i) (Some x) (by_datum y old i))))
+
+  at_new : (d : Datum) → at d new ≡ cond (same (datum_of key) d) (Some x) (at d old)
+  at_new d = step (same (datum_of key) d) refl
+    where
+      by_name : (b : Bool) → same (datum_of key) d ≡ b → (y : Value) → d ≡ datum_of y → at d new ≡ cond b (Some x) (at d old)
+      by_name b h y e = at_named y d e ∙ ap (λ c. cond c (Some x) (at d old)) h
+
+      step : (b : Bool) → same (datum_of key) d ≡ b → at d new ≡ cond b (Some x) (at d old)
+      step true h = by_name true h key (sym (same_is (datum_of key) d h))
+      step false h = named_or d new (by_name false h) (λ n. named_or d old (by_name false h) (λ o. n ∙ sym o))
 
 put_at : (es : KeyedRecords) (key : Value) (d : Datum) (item : Record) (g : List Record) → lookup (equal key) es ≡ Some g
     → records_at (set_value (equal key) es (g ++ item ∷ [])) d ≡ cond (same (datum_of key) d) (records_at es d ++ item ∷ []) (records_at es d)
@@ -54,29 +69,22 @@ put_at (e ∷ es) key d item g h = step (equal key e.0) refl h (λ k. put_at es 
         apart true h k = let no : same (datum_of key) d ≡ false = ap (λ x. same (datum_of key) x) (same_is d (datum_of e.0) h) ∙ (sym (eq-value_is key e.0) ∙ q) in rw no refl
         apart false h k = k
 
-put_new : (es : KeyedRecords) (key : Value) (d : Datum) (item : Record) → lookup (equal key) es ≡ None
-    → records_at (es ++ (key, item ∷ []) ∷ []) d ≡ cond (same (datum_of key) d) (records_at es d ++ item ∷ []) (records_at es d)
-put_new es key d item none = step (same (datum_of key) d) refl
-  where
-    step : (x : Bool) → same (datum_of key) d ≡ x → records_at (es ++ (key, item ∷ []) ∷ []) d ≡ cond x (records_at es d ++ item ∷ []) (records_at es d)
-    step true e =
-        let gone : lookup (λ y. same d (datum_of y)) es ≡ None = ap (λ k. lookup (λ y. same k (datum_of y)) es) (sym (same_is (datum_of key) d e)) ∙ (sym (by_datum key es) ∙ none) in
-        rw (lookup_new (λ y. same d (datum_of y)) es key (item ∷ []) (flipped (datum_of key) d true e) gone, gone) refl
-    step false e = ap or_empty (lookup_other (λ y. same d (datum_of y)) es key (item ∷ []) (flipped (datum_of key) d false e))
-
 -- ---- the names
 or_none : (a : Bool) → (a || false) ≡ a
 or_none true = refl
 or_none false = refl
 
-name_new : (es : KeyedRecords) (key : Value) (g : List Record) (d : Datum) → is_among (names_of (es ++ (key, g) ∷ [])) d ≡ (is_among (names_of es) d || same (datum_of key) d)
-name_new [] key g d = or_none (same (datum_of key) d)
-name_new (e ∷ es) key g d = step (same (datum_of e.0) d) (name_new es key g d)
+or_all : (a : Bool) → (a || true) ≡ true
+or_all true = refl
+or_all false = refl
+
+among_is : (d : Datum) (es : KeyedRecords) → is_among (names_of es) d ≡ is_some (at d es)
+among_is d [] = refl
+among_is d (e ∷ es) = step (same d (datum_of e.0)) refl (among_is d es)
   where
-    step : (b : Bool) → is_among (names_of (es ++ (key, g) ∷ [])) d ≡ (is_among (names_of es) d || same (datum_of key) d)
-        → (b || is_among (names_of (es ++ (key, g) ∷ [])) d) ≡ ((b || is_among (names_of es) d) || same (datum_of key) d)
-    step true h = refl
-    step false h = h
+    step : (b : Bool) → same d (datum_of e.0) ≡ b → is_among (names_of es) d ≡ is_some (at d es) → (same (datum_of e.0) d || is_among (names_of es) d) ≡ is_some (cond b (Some e.1) (at d es))
+    step true h rest = rw (flipped d (datum_of e.0) true h) refl
+    step false h rest = rw (flipped d (datum_of e.0) false h) rest
 
 name_known : (es : KeyedRecords) (key : Value) (g h : List Record) (d : Datum) → lookup (equal key) es ≡ Some g → is_among (names_of (set_value (equal key) es h)) d ≡ (is_among (names_of es) d || same (datum_of key) d)
 name_known [] key g h d k = cc
@@ -106,16 +114,28 @@ module _ (old new : KeyedRecords) (key : Value) (item : Record) where
   pub known_names : (g h : List Record) → lookup (equal key) old ≡ Some g → new ≡ set_value (equal key) old h → (d : Datum) → is_among (names_of new) d ≡ (is_among (names_of old) d || same (datum_of key) d)
   known_names g h known n d = rw n (name_known old key g h d known)
 
-  new_is : {S : Type 0} (map : IndexMap Value (List Record) S) (h : List Record) → map.entries ≡ old → lookup (equal key) old ≡ None → h ≡ item ∷ [] → new ≡ insert_entry equal map.entries key h → new ≡ old ++ (key, item ∷ []) ∷ []
-  new_is map h was none one n = n ∙ (ap (insert_entry equal map.entries key) one ∙ (insert_entry-new equal map key (item ∷ []) (ap (lookup (equal key)) was ∙ none) ∙ ap (λ es. es ++ (key, item ∷ []) ∷ []) was))
+  -- the map and the group as the call has them
+  pub put_here : {S : Type 0} (map : HashMap Value (List Record) S) (h : List Record) → map.entries ≡ old → h ≡ item ∷ []
+      → ((q : Value) → lookup (equal q) new ≡ cond (equal key q) (Some h) (lookup (equal q) map.entries)) → (q : Value) → lookup (equal q) new ≡ cond (equal key q) (Some (item ∷ [])) (lookup (equal q) old)
+  put_here map h was one put q = put q ∙ rw (was, one) refl
 
-  pub new_records : {S : Type 0} (map : IndexMap Value (List Record) S) (h : List Record) → map.entries ≡ old → lookup (equal key) old ≡ None → h ≡ item ∷ [] → new ≡ insert_entry equal map.entries key h
-      → (d : Datum) → records_at new d ≡ cond (same (datum_of key) d) (records_at old d ++ item ∷ []) (records_at old d)
-  new_records map h was none one n d = rw (new_is map h was none one n) (put_new old key d item none)
+  -- a group of one record is put at a key that had none
+  module _ (none : lookup (equal key) old ≡ None) (put : (q : Value) → lookup (equal q) new ≡ cond (equal key q) (Some (item ∷ [])) (lookup (equal q) old)) where
+    pub new_records : (d : Datum) → records_at new d ≡ cond (same (datum_of key) d) (records_at old d ++ item ∷ []) (records_at old d)
+    new_records d = ap or_empty (at_new old new key (item ∷ []) put d) ∙ step (same (datum_of key) d) refl
+      where
+        step : (b : Bool) → same (datum_of key) d ≡ b → or_empty (cond b (Some (item ∷ [])) (at d old)) ≡ cond b (records_at old d ++ item ∷ []) (records_at old d)
+        step true h =
+            let gone : at d old ≡ None = ap (λ k. at k old) (sym (same_is (datum_of key) d h)) ∙ (sym (by_datum key old) ∙ none) in
+            rw gone refl
+        step false h = refl
 
-  pub new_names : {S : Type 0} (map : IndexMap Value (List Record) S) (h : List Record) → map.entries ≡ old → lookup (equal key) old ≡ None → h ≡ item ∷ [] → new ≡ insert_entry equal map.entries key h
-      → (d : Datum) → is_among (names_of new) d ≡ (is_among (names_of old) d || same (datum_of key) d)
-  new_names map h was none one n d = rw (new_is map h was none one n) (name_new old key (item ∷ []) d)
+    pub new_names : (d : Datum) → is_among (names_of new) d ≡ (is_among (names_of old) d || same (datum_of key) d)
+    new_names d = among_is d new ∙ (ap is_some (at_new old new key (item ∷ []) put d) ∙ step (same (datum_of key) d))
+      where
+        step : (b : Bool) → is_some (cond b (Some (item ∷ [])) (at d old)) ≡ (is_among (names_of old) d || b)
+        step true = sym (or_all (is_among (names_of old) d))
+        step false = sym (among_is d old) ∙ sym (or_none (is_among (names_of old) d))
 
 -- ---- along the changes
 changes_more : (d : Datum) (done : List KeyedRecord) (c : KeyedRecord) → changes_at d (done ++ c ∷ []) ≡ cond (same c.key d) (changes_at d done ++ c.change ∷ []) (changes_at d done)

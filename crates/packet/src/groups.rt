@@ -7,13 +7,13 @@ ghost use Rattle.partial.specs.States.{ChangeFits, OthersStay, after_change, sta
 ghost use Rattle.packet.specs.{Keys.is_among, Keys.stands_of, Groups.records_at, Groups.names_of, Groups.named_in, Truth.changes_at};
 
 use crate::keyed::Keyed;
-use indexmap::IndexMap;
-use indexmap::map::IntoIter;
 use partial::partial::Partial;
 use row::bag::Bag;
 use row::record::Record;
 use row::value::Value;
 use std::alloc::{AllocError, Global};
+use std::collections::HashMap;
+use std::collections::hash_map::IntoIter;
 use std::marker::Model;
 
 /// The records of one key, in order.
@@ -79,10 +79,10 @@ impl Group {
     }
 }
 
-/// Records in groups, one for each key, in the order of the first record of each.
+/// Records in groups, one for each key, in any order.
 #[derive(Drop)]
 pub struct Groups {
-    groups: IndexMap<Value, Group>,
+    groups: HashMap<Value, Group>,
 }
 
 impl Model for Groups {
@@ -119,7 +119,7 @@ impl Groups {
         ensures { result ≡ [] }
     {
         Groups {
-            groups: IndexMap::new(alloc),
+            groups: HashMap::new(alloc),
         }
     }
 

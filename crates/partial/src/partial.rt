@@ -13,10 +13,10 @@ use crate::filled::{Filled, Walk};
 use crate::gather::Gather;
 use crate::pieces::Pieces;
 use crate::waiting::{drop_piece, take_whole};
-use indexmap::IndexMap;
 use row::bag::Bag;
 use row::row::Row;
 use std::alloc::{AllocError, Global};
+use std::collections::HashMap;
 use std::hash::Hash;
 use std::marker::Model;
 
@@ -35,7 +35,7 @@ pub enum Evicted {
 pub struct Partial<K: Eq + Hash, E> {
     sources: usize,
     filled: Filled<K, E>,
-    waiting: IndexMap<K, Pieces<E>>,
+    waiting: HashMap<K, Pieces<E>>,
 }
 
 // What holds one drops it by this call, and need not know its parts.
@@ -75,7 +75,7 @@ impl<K: Eq + Hash + Drop, E: Drop> Partial<K, E> {
         Ok(Partial {
             sources,
             filled: Filled::new(alloc)?,
-            waiting: IndexMap::new(alloc),
+            waiting: HashMap::new(alloc),
         })
     }
 

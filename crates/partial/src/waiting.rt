@@ -1,16 +1,16 @@
 //! The gathers of the keys that wait.
 ghost use Rattle.std.specs.Prelude.{◌≡◌, None, Some, IfSome, IfNone, true, false, if◌then◌else◌, slice_get, slice_set};
 ghost use Rattle.partial.specs.States.{given, completes, is_here};
-ghost use Rattle.indexmap.specs.IndexMap.{get, Updates};
+ghost use Rattle.std.specs.HashMap.{get, Updates};
 
 use crate::pieces::Pieces;
-use indexmap::IndexMap;
+use std::collections::HashMap;
 use std::hash::Hash;
 
 /// Puts the piece where the key waits for it, and says whether now each source's piece is here
 /// by it.
 fn put_piece<K: Eq + Hash, E: Drop>(
-    waiting: &mut IndexMap<K, Pieces<E>>,
+    waiting: &mut HashMap<K, Pieces<E>>,
     key: &K,
     source: usize,
     piece: E,
@@ -29,7 +29,7 @@ fn put_piece<K: Eq + Hash, E: Drop>(
 /// Puts the piece where the key waits for it, and takes the gather out where each source's
 /// piece is here by it.
 pub(crate) fn take_whole<K: Eq + Hash + Drop, E: Drop>(
-    waiting: &mut IndexMap<K, Pieces<E>>,
+    waiting: &mut HashMap<K, Pieces<E>>,
     key: &K,
     source: usize,
     piece: E,
@@ -46,7 +46,7 @@ pub(crate) fn take_whole<K: Eq + Hash + Drop, E: Drop>(
         ≡ (if K.eq key.now k then None else get K.eq waiting.old k)) }
 {
     if put_piece(waiting, key, source, piece) {
-        waiting.swap_remove_entry(key)
+        waiting.remove_entry(key)
     } else {
         None
     }
@@ -54,7 +54,7 @@ pub(crate) fn take_whole<K: Eq + Hash + Drop, E: Drop>(
 
 /// Drops the piece of the source at the key that waits, and says whether it was here.
 pub(crate) fn drop_piece<K: Eq + Hash, E: Drop>(
-    waiting: &mut IndexMap<K, Pieces<E>>,
+    waiting: &mut HashMap<K, Pieces<E>>,
     key: &K,
     source: usize,
 ) -> bool

@@ -9,4 +9,4 @@ stored_passes test es None h = tt
 stored_passes test es (Some p) h = lookup_key_passes test es p.0 (sym h)
 
 pub returns-then-put_piece-clause-stored : goal.returns-then-put_piece-clause-stored
-returns-then-put_piece-clause-stored g c = stored_passes (g.K.PartialEq.eq c.args.key.now) c.put_piece.new.waiting.entries c.swap_remove_entry.result c.swap_remove_entry.ensures.key
+returns-then-put_piece-clause-stored g c = stored_passes (g.K.PartialEq.eq c.args.key.now) c.put_piece.new.waiting.entries c.remove_entry.result c.remove_entry.ensures.key
