@@ -33,13 +33,19 @@ impl<P: Drop> Edge<P> {
         }
     }
 
-    /// Room for one more.
+    /// Room for one more: for just one where there is nothing on it, since most messages make a domain
+    /// put out one.
     fn reserve(&mut self) -> Result<(), Refused>
         ensures only { IsOkUnless result Refused.NoMemory }
         ensures room { OnOk result (0 < self.new.room) }
         ensures rest { self.new ≡ record self.old { room = self.new.room } }
     {
-        self.packets.reserve(1).map_err(|_| Refused::NoMemory)
+        let reserved = if self.packets.is_empty() {
+            self.packets.reserve_exact(1)
+        } else {
+            self.packets.reserve(1)
+        };
+        reserved.map_err(|_| Refused::NoMemory)
     }
 
     /// Puts it behind the others, in room that is there.
