@@ -3,7 +3,7 @@ ghost use Rattle.std.specs.Prelude.{◌≡◌};
 ghost use Rattle.std.proofs.Common.{rules};
 ghost use Rattle.std.specs.Cmp.Rules.{comparing};
 ghost use Rattle.std.specs.Ordering.{nat_cmp, on, eq_by_cmp};
-ghost use Rattle.recipe.specs.{Errors.number_of, Errors.name_of, declared.error.PlanError.TheVariants.NoMemory};
+ghost use Rattle.recipe.specs.{Errors.number_at, Errors.name_at, Errors.number_of, Errors.name_of, declared.error.PlanError.TheVariants.NoMemory};
 
 use std::alloc::AllocError;
 use std::fmt;
@@ -64,27 +64,68 @@ impl Spot {
     }
 }
 
-/// Why a recipe is refused, with the place of the fault. Two are equal if their numbers are.
+/// What is wrong at a place of a recipe.
+#[derive(Clone, Copy, PartialEq, Eq, Debug)]
+pub enum Flaw {
+    MissingField,
+    UnknownColumn,
+    TypeMismatch,
+    DoublePath,
+    KeyNotLeft,
+    LimitExceeded,
+    DuplicateName,
+}
+
+impl Flaw {
+    fn number(self) -> u8
+        ensures { result ≡ number_at self }
+    {
+        match self {
+            Flaw::MissingField => 21,
+            Flaw::UnknownColumn => 22,
+            Flaw::TypeMismatch => 23,
+            Flaw::DoublePath => 24,
+            Flaw::KeyNotLeft => 25,
+            Flaw::LimitExceeded => 26,
+            Flaw::DuplicateName => 27,
+        }
+    }
+
+    fn name(self) -> &'static str
+        ensures { result.now ≡ name_at self }
+    {
+        match self {
+            Flaw::MissingField => "MissingField",
+            Flaw::UnknownColumn => "UnknownColumn",
+            Flaw::TypeMismatch => "TypeMismatch",
+            Flaw::DoublePath => "DoublePath",
+            Flaw::KeyNotLeft => "KeyNotLeft",
+            Flaw::LimitExceeded => "LimitExceeded",
+            Flaw::DuplicateName => "DuplicateName",
+        }
+    }
+}
+
+// What is said behind its place.
+impl fmt::Display for Flaw {
+    fn fmt<W: fmt::Write>(&self, f: &mut fmt::Formatter<W>) -> fmt::Result {
+        match self {
+            Flaw::MissingField => f.write_str(", which is missing"),
+            Flaw::UnknownColumn => f.write_str(", and there is none such"),
+            _ => Ok(()),
+        }
+    }
+}
+
+/// Why a recipe is refused, with the place of a flaw. Two are equal if their numbers are.
 #[derive(Clone, Copy, Debug, Error)]
 pub enum PlanError {
     #[error("no memory is left")]
     NoMemory,
     #[error("the text is not TOML")]
     NotToml,
-    #[error("{0}, which is missing")]
-    MissingField(Spot),
-    #[error("{0}, and there is none such")]
-    UnknownColumn(Spot),
-    #[error("{0}")]
-    TypeMismatch(Spot),
-    #[error("{0}")]
-    DoublePath(Spot),
-    #[error("{0}")]
-    KeyNotLeft(Spot),
-    #[error("{0}")]
-    LimitExceeded(Spot),
-    #[error("{0}")]
-    DuplicateName(Spot),
+    #[error("{1}{0}")]
+    At(Flaw, Spot),
 }
 
 impl PlanError {
@@ -95,13 +136,7 @@ impl PlanError {
         match self {
             PlanError::NoMemory => 1,
             PlanError::NotToml => 20,
-            PlanError::MissingField(_) => 21,
-            PlanError::UnknownColumn(_) => 22,
-            PlanError::TypeMismatch(_) => 23,
-            PlanError::DoublePath(_) => 24,
-            PlanError::KeyNotLeft(_) => 25,
-            PlanError::LimitExceeded(_) => 26,
-            PlanError::DuplicateName(_) => 27,
+            PlanError::At(flaw, _) => flaw.number(),
         }
     }
 
@@ -112,13 +147,7 @@ impl PlanError {
         match self {
             PlanError::NoMemory => "NoMemory",
             PlanError::NotToml => "NotToml",
-            PlanError::MissingField(_) => "MissingField",
-            PlanError::UnknownColumn(_) => "UnknownColumn",
-            PlanError::TypeMismatch(_) => "TypeMismatch",
-            PlanError::DoublePath(_) => "DoublePath",
-            PlanError::KeyNotLeft(_) => "KeyNotLeft",
-            PlanError::LimitExceeded(_) => "LimitExceeded",
-            PlanError::DuplicateName(_) => "DuplicateName",
+            PlanError::At(flaw, _) => flaw.name(),
         }
     }
 }

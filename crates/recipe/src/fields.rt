@@ -4,7 +4,7 @@ ghost use Rattle.std.specs.Option.{option_copied};
 ghost use Rattle.toml.specs.{Data.get, View.view, View.array_view, View.table_view};
 ghost use Rattle.recipe.specs.{Errors.Gives, Words.natural, Fields.text_in, Fields.whole_in, Fields.list_in, Fields.table_in, Fields.needed_text, Fields.needed_whole, Fields.optional, Fields.paired};
 
-use crate::error::{Part, Place, PlanError};
+use crate::error::{Flaw, Part, Place, PlanError};
 use toml::value::Array;
 use toml::{Table, Value};
 
@@ -22,7 +22,7 @@ pub(crate) fn text_in(value: &Value, at: Place) -> Result<&str, PlanError>
 {
     match value.as_str() {
         Some(text) => Ok(text),
-        None => Err(PlanError::TypeMismatch(at.expects(A_TEXT))),
+        None => Err(PlanError::At(Flaw::TypeMismatch, at.expects(A_TEXT))),
     }
 }
 
@@ -33,7 +33,7 @@ pub(crate) fn whole_in(value: &Value, at: Place) -> Result<usize, PlanError>
 {
     match value.as_integer() {
         Some(number) => Ok(natural(number)),
-        None => Err(PlanError::TypeMismatch(at.expects(A_WHOLE))),
+        None => Err(PlanError::At(Flaw::TypeMismatch, at.expects(A_WHOLE))),
     }
 }
 
@@ -50,7 +50,7 @@ pub(crate) fn list_in(value: &Value, at: Place) -> Result<&Array, PlanError>
 {
     match value.as_array() {
         Some(list) => Ok(list),
-        None => Err(PlanError::TypeMismatch(at.expects(A_LIST))),
+        None => Err(PlanError::At(Flaw::TypeMismatch, at.expects(A_LIST))),
     }
 }
 
@@ -60,7 +60,7 @@ pub(crate) fn table_in(value: &Value, at: Place) -> Result<&Table, PlanError>
 {
     match value.as_table() {
         Some(table) => Ok(table),
-        None => Err(PlanError::TypeMismatch(at.expects(A_TABLE))),
+        None => Err(PlanError::At(Flaw::TypeMismatch, at.expects(A_TABLE))),
     }
 }
 
@@ -74,7 +74,7 @@ pub(crate) fn text<'a>(
 {
     match member.get(field) {
         Some(value) => text_in(value, part.field(field)),
-        None => Err(PlanError::MissingField(part.field(field).expects(A_TEXT))),
+        None => Err(PlanError::At(Flaw::MissingField, part.field(field).expects(A_TEXT))),
     }
 }
 
@@ -84,7 +84,7 @@ pub(crate) fn whole(member: &Value, part: Part, field: &'static str) -> Result<u
 {
     match member.get(field) {
         Some(value) => whole_in(value, part.field(field)),
-        None => Err(PlanError::MissingField(part.field(field).expects(A_WHOLE))),
+        None => Err(PlanError::At(Flaw::MissingField, part.field(field).expects(A_WHOLE))),
     }
 }
 
@@ -116,7 +116,7 @@ pub(crate) fn paired<'a>(
     match member.get(field) {
         Some(value) => Ok(Some(text_in(value, part.field(field))?)),
         None => match member.get(partner) {
-            Some(_) => Err(PlanError::MissingField(part.field(field).expects(A_TEXT))),
+            Some(_) => Err(PlanError::At(Flaw::MissingField, part.field(field).expects(A_TEXT))),
             None => Ok(None),
         },
     }

@@ -3,7 +3,7 @@ ghost use Rattle.std.specs.Prelude.{◌≡◌, codes};
 ghost use Rattle.toml.specs.{View.view, View.items_view, Data.get};
 ghost use Rattle.recipe.specs.{Errors.Gives, Words.side_columns, Words.right_side_columns, Fields.each, Fields.column_of, Fields.column_at, Fields.columns_at, Fields.table_at, Fields.tables_at, Fields.view_at, Fields.views_at, Fields.needed, Fields.draft_at};
 
-use crate::error::{Part, PlanError, Spot};
+use crate::error::{Flaw, Part, PlanError, Spot};
 use crate::fields::{list_in, table_in, text, text_in, whole};
 use crate::names::{
     TABLE_FIELDS, TOP_FIELDS, VIEW_FIELDS, column_of_both, column_place,
@@ -32,7 +32,7 @@ fn column_of(alloc: Global, text: &str, part: Part) -> Result<Column, PlanError>
     {
         return Ok(Column::new(alloc, name, kind)?);
     }
-    Err(PlanError::TypeMismatch(Spot::new(part, "columns", A_COLUMN)))
+    Err(PlanError::At(Flaw::TypeMismatch, Spot::new(part, "columns", A_COLUMN)))
 }
 
 /// A column.
@@ -75,7 +75,7 @@ fn table_at(alloc: Global, value: &Value, part: Part) -> Result<Table, PlanError
     let key = text(value, part, "key")?;
     let columns = columns(alloc, value, part)?;
     if !has_only(members, &TABLE_FIELDS) {
-        return Err(PlanError::TypeMismatch(Spot::new(part, "table", LISTED)));
+        return Err(PlanError::At(Flaw::TypeMismatch, Spot::new(part, "table", LISTED)));
     }
     let place = column_place(&columns, key);
     let name = String::from_str(alloc, name)?;
@@ -89,7 +89,7 @@ fn columns(alloc: Global, member: &Value, part: Part) -> Result<Vec<Column>, Pla
 {
     match member.get("columns") {
         Some(value) => columns_at(alloc, value, part),
-        None => Err(PlanError::MissingField(Spot::new(part, "columns", A_COLUMN))),
+        None => Err(PlanError::At(Flaw::MissingField, Spot::new(part, "columns", A_COLUMN))),
     }
 }
 
@@ -111,7 +111,10 @@ fn tables(alloc: Global, document: &Value) -> Result<Vec<Table>, PlanError>
 {
     match document.get("table") {
         Some(value) => tables_at(alloc, value),
-        None => Err(PlanError::MissingField(Spot::new(Part::Recipe, "table", "1 to 8 tables"))),
+        None => Err(PlanError::At(
+            Flaw::MissingField,
+            Spot::new(Part::Recipe, "table", "1 to 8 tables"),
+        )),
     }
 }
 
@@ -141,7 +144,7 @@ fn view_at(
     let shards = whole(value, part, "shards")?;
     let cap = whole(value, part, "cap")?;
     if !has_only(members, &VIEW_FIELDS) {
-        return Err(PlanError::TypeMismatch(Spot::new(part, "view", LISTED)));
+        return Err(PlanError::At(Flaw::TypeMismatch, Spot::new(part, "view", LISTED)));
     }
     let place = column_of_both(lefts, rights, key);
     let name = String::from_str(alloc, name)?;
@@ -191,7 +194,10 @@ fn views(
 {
     match document.get("view") {
         Some(value) => views_at(alloc, lefts, rights, value),
-        None => Err(PlanError::MissingField(Spot::new(Part::Recipe, "view", "1 to 4 views"))),
+        None => Err(PlanError::At(
+            Flaw::MissingField,
+            Spot::new(Part::Recipe, "view", "1 to 4 views"),
+        )),
     }
 }
 
@@ -226,7 +232,10 @@ pub(crate) fn draft_at(alloc: Global, document: &Value) -> Result<Draft, PlanErr
     let rights = right_side_columns(&tables, &stage.right);
     let views = views(alloc, lefts, rights, document)?;
     if !has_only(members, &TOP_FIELDS) {
-        return Err(PlanError::TypeMismatch(Spot::new(Part::Recipe, "recipe", LISTED)));
+        return Err(PlanError::At(
+            Flaw::TypeMismatch,
+            Spot::new(Part::Recipe, "recipe", LISTED),
+        ));
     }
     Ok(Draft {
         tables,

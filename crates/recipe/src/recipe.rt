@@ -5,7 +5,7 @@ ghost use Rattle.toml.specs.{Parse.parse_document, View.view};
 ghost use Rattle.plan.specs.Profile.{IsPlan};
 ghost use Rattle.recipe.specs.{Errors.Gives, Plans.judged, Plans.plan_at, Plans.plan_of};
 
-use crate::error::PlanError;
+use crate::error::{Flaw, PlanError};
 use crate::reading::draft_at;
 use crate::spots::{key_spot, kind_spot, limit_spot, name_spot, path_spot, unknown_spot};
 use plan::draft::Draft;
@@ -62,27 +62,36 @@ fn plan_of_document(alloc: Global, document: &Value) -> Result<Plan, PlanError>
 /// The plan of a draft, or the refusal of the first check that fails: limits and names (26), names
 /// that are alike (27), unknown tables and columns (22), a double path (24), keys of views (25),
 /// kinds (23). Takes no memory.
-#[tactic(auto, unfolding(plan::specs::Profile::IsPlan))]
 pub fn judge(draft: Draft) -> Result<Plan, PlanError>
     ensures { Gives (λ p. p) result (judged draft) }
 {
+    check(&draft)?;
+    Ok(Plan::from_checked(draft))
+}
+
+// The refusal of the first check that fails.
+#[tactic(auto, unfolding(plan::specs::Profile::IsPlan))]
+fn check(draft: &Draft) -> Result<(), PlanError>
+    ensures first { Gives (λ _. draft.now) result (judged draft.now) }
+    ensures plan { IfOk result (λ _. IsPlan draft.now) }
+{
     if !draft.keeps_limits() {
-        return Err(PlanError::LimitExceeded(limit_spot(&draft)));
+        return Err(PlanError::At(Flaw::LimitExceeded, limit_spot(draft)));
     }
     if !draft.has_own_names() {
-        return Err(PlanError::DuplicateName(name_spot(&draft)));
+        return Err(PlanError::At(Flaw::DuplicateName, name_spot(draft)));
     }
     if !draft.has_known_places() {
-        return Err(PlanError::UnknownColumn(unknown_spot(&draft)));
+        return Err(PlanError::At(Flaw::UnknownColumn, unknown_spot(draft)));
     }
     if !draft.has_single_paths() {
-        return Err(PlanError::DoublePath(path_spot()));
+        return Err(PlanError::At(Flaw::DoublePath, path_spot()));
     }
     if !draft.has_left_keys() {
-        return Err(PlanError::KeyNotLeft(key_spot(&draft)));
+        return Err(PlanError::At(Flaw::KeyNotLeft, key_spot(draft)));
     }
     if !draft.has_one_kind() {
-        return Err(PlanError::TypeMismatch(kind_spot(&draft)));
+        return Err(PlanError::At(Flaw::TypeMismatch, kind_spot(draft)));
     }
-    Ok(Plan::from_checked(draft))
+    Ok(())
 }

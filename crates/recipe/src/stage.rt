@@ -5,7 +5,7 @@ ghost use Rattle.recipe.specs.{Errors.Gives, Words.columns_of, Fields.each, Fiel
 ghost use Rattle.toml.specs.{Data.get, View.view, View.items_view};
 ghost use Rattle.row.specs.Cells.{datum_of};
 
-use crate::error::{Part, PlanError, Spot};
+use crate::error::{Flaw, Part, PlanError, Spot};
 use crate::fields::{list_in, paired, table_in, text, text_in, whole, whole_or};
 use crate::names::{
     CONDITION_FIELDS, STAGE_FIELDS, column_place, columns_at, has_only, table_place,
@@ -37,7 +37,7 @@ fn op_at(value: &Value, part: Part) -> Result<Op, PlanError>
     let word = text_in(value, part.field("op"))?;
     match op_of(word) {
         Some(op) => Ok(op),
-        None => Err(PlanError::TypeMismatch(Spot::new(part, "op", AN_OP))),
+        None => Err(PlanError::At(Flaw::TypeMismatch, Spot::new(part, "op", AN_OP))),
     }
 }
 
@@ -47,7 +47,7 @@ fn op(member: &Value, part: Part) -> Result<Op, PlanError>
 {
     match member.get("op") {
         Some(value) => op_at(value, part),
-        None => Err(PlanError::MissingField(Spot::new(part, "op", AN_OP))),
+        None => Err(PlanError::At(Flaw::MissingField, Spot::new(part, "op", AN_OP))),
     }
 }
 
@@ -60,7 +60,7 @@ fn value_at(alloc: Global, value: &Value, part: Part) -> Result<Cell, PlanError>
     }
     match value.as_integer() {
         Some(number) => Ok(Cell::Int(number as i128)),
-        None => Err(PlanError::TypeMismatch(Spot::new(part, "value", A_VALUE))),
+        None => Err(PlanError::At(Flaw::TypeMismatch, Spot::new(part, "value", A_VALUE))),
     }
 }
 
@@ -70,7 +70,7 @@ fn value(alloc: Global, member: &Value, part: Part) -> Result<Cell, PlanError>
 {
     match member.get("value") {
         Some(value) => value_at(alloc, value, part),
-        None => Err(PlanError::MissingField(Spot::new(part, "value", A_VALUE))),
+        None => Err(PlanError::At(Flaw::MissingField, Spot::new(part, "value", A_VALUE))),
     }
 }
 
@@ -89,7 +89,7 @@ fn condition_at(
     let op = op(member, part)?;
     let value = value(alloc, member, part)?;
     if !has_only(members, &CONDITION_FIELDS) {
-        return Err(PlanError::TypeMismatch(Spot::new(part, "condition", LISTED)));
+        return Err(PlanError::At(Flaw::TypeMismatch, Spot::new(part, "condition", LISTED)));
     }
     Ok(Condition::new(column_place(columns, column), op, value))
 }
@@ -172,11 +172,10 @@ fn right_where(
         None => Ok(Vec::new(alloc)),
         Some(value) => match right {
             Some(_) => conditions_at(alloc, columns, value, Way::Right),
-            None => Err(PlanError::TypeMismatch(Spot::new(
-                Part::Stage,
-                "right_where",
-                "conditions only with `right`",
-            ))),
+            None => Err(PlanError::At(
+                Flaw::TypeMismatch,
+                Spot::new(Part::Stage, "right_where", "conditions only with `right`"),
+            )),
         },
     }
 }
@@ -189,7 +188,10 @@ fn word_at(value: &Value) -> Result<Option<Word>, PlanError>
     let text = text_in(value, Part::Stage.field("aggregate"))?;
     match word_of(text) {
         Some(word) => Ok(Some(word)),
-        None => Err(PlanError::TypeMismatch(Spot::new(Part::Stage, "aggregate", A_WORD))),
+        None => Err(PlanError::At(
+            Flaw::TypeMismatch,
+            Spot::new(Part::Stage, "aggregate", A_WORD),
+        )),
     }
 }
 
@@ -216,16 +218,18 @@ fn aggregate_of(
     match (word, sum) {
         (None, None) => Ok(None),
         (Some(Word::Count), None) => Ok(Some(Aggregate::Count)),
-        (Some(Word::Sum), None) => Err(PlanError::MissingField(Spot::new(
-            Part::Stage,
-            "sum",
-            A_SUM,
-        ))),
+        (Some(Word::Sum), None) => Err(PlanError::At(
+            Flaw::MissingField,
+            Spot::new(Part::Stage, "sum", A_SUM),
+        )),
         (Some(Word::Sum), Some(value)) => {
             let name = text_in(value, Part::Stage.field("sum"))?;
             Ok(Some(Aggregate::Sum(column_place(columns, name))))
         }
-        (_, Some(_)) => Err(PlanError::TypeMismatch(Spot::new(Part::Stage, "sum", A_SUM))),
+        (_, Some(_)) => Err(PlanError::At(
+            Flaw::TypeMismatch,
+            Spot::new(Part::Stage, "sum", A_SUM),
+        )),
     }
 }
 
@@ -322,7 +326,7 @@ fn stage_at(alloc: Global, tables: &[Table], stage: &Value) -> Result<StageParts
     let right_where = right_where(alloc, right_columns(tables, right), right, stage)?;
     let cap = whole_or(1024, stage, Part::Stage, "cap")?;
     if !has_only(members, &STAGE_FIELDS) {
-        return Err(PlanError::TypeMismatch(Spot::new(Part::Stage, "stage", LISTED)));
+        return Err(PlanError::At(Flaw::TypeMismatch, Spot::new(Part::Stage, "stage", LISTED)));
     }
     Ok(StageParts {
         shards,
@@ -344,6 +348,9 @@ pub(crate) fn stage(
 {
     match document.get("stage") {
         Some(value) => stage_at(alloc, tables, value),
-        None => Err(PlanError::MissingField(Spot::new(Part::Recipe, "stage", "a stage"))),
+        None => Err(PlanError::At(
+            Flaw::MissingField,
+            Spot::new(Part::Recipe, "stage", "a stage"),
+        )),
     }
 }
