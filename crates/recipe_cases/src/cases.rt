@@ -12,15 +12,24 @@ use std::io::{self, Write};
 /// of passes, or why its recipe is refused. What stands before the first case is for readers.
 pub fn write_cases<W: Write>(alloc: Global, text: &str, out: &mut W) -> io::Result<()> {
     for case in text.split("\n== ").skip(1) {
-        if let Some((name, body)) = case.split_once('\n') {
-            writeln!(out, "== {name}")?;
-            write_case(alloc, body, out)?;
-        }
+        let printed = text_of(alloc, case)?;
+        out.write_all(printed.as_bytes())?;
     }
     Ok(())
 }
 
-fn write_case<W: Write>(alloc: Global, body: &str, out: &mut W) -> io::Result<()> {
+// What is printed of a case. It is written to memory, where only want of it is an error.
+fn text_of(alloc: Global, case: &str) -> Result<String, AllocError> {
+    let mut out = String::new(alloc);
+    write_case(alloc, case, &mut out)?;
+    Ok(out)
+}
+
+fn write_case(alloc: Global, case: &str, out: &mut String) -> Result<(), AllocError> {
+    let Some((name, body)) = case.split_once('\n') else {
+        return Ok(());
+    };
+    writeln!(out, "== {name}")?;
     let (recipe, questions) = body.split_once("\n? ").unwrap_or((body, ""));
     match from_toml(alloc, recipe) {
         Ok(plan) => write_answers(alloc, &plan, questions, out),
@@ -28,12 +37,12 @@ fn write_case<W: Write>(alloc: Global, body: &str, out: &mut W) -> io::Result<()
     }
 }
 
-fn write_answers<W: Write>(
+fn write_answers(
     alloc: Global,
     plan: &Plan,
     questions: &str,
-    out: &mut W,
-) -> io::Result<()> {
+    out: &mut String,
+) -> Result<(), AllocError> {
     write_plan(alloc, plan, out)?;
     for question in questions.split("\n? ") {
         if !question.is_empty() {
@@ -44,9 +53,9 @@ fn write_answers<W: Write>(
 }
 
 // Want of memory is no reason why a recipe is refused: it is the error.
-fn write_refusal<W: Write>(error: PlanError, out: &mut W) -> io::Result<()> {
+fn write_refusal(error: PlanError, out: &mut String) -> Result<(), AllocError> {
     if let PlanError::NoMemory = error {
-        return Err(io::Error::from(AllocError));
+        return Err(AllocError);
     }
     write!(out, "refused {}", error.number())?;
     write!(out, " {}", error.name())?;

@@ -3,11 +3,10 @@ use plan::kinds::{Aggregate, Kind};
 use plan::plan::{Plan, ViewPlan};
 use plan::stage::Side;
 use plan::table::Table;
-use std::alloc::Global;
-use std::io::{self, Write};
+use std::alloc::{AllocError, Global};
 
 /// Prints the tables, the stage, the views, and the tags and edges.
-pub fn write_plan<W: Write>(alloc: Global, plan: &Plan, out: &mut W) -> io::Result<()> {
+pub fn write_plan(alloc: Global, plan: &Plan, out: &mut String) -> Result<(), AllocError> {
     for at in 0..plan.tables() {
         write_table(plan.table(at), out)?;
     }
@@ -19,7 +18,7 @@ pub fn write_plan<W: Write>(alloc: Global, plan: &Plan, out: &mut W) -> io::Resu
     write_edges(alloc, plan, out)
 }
 
-fn write_table<W: Write>(table: &Table, out: &mut W) -> io::Result<()> {
+fn write_table(table: &Table, out: &mut String) -> Result<(), AllocError> {
     write!(out, "table {}", table.name())?;
     write!(out, ", shards {}", table.shards())?;
     write!(out, ", key {}", column_name(table, table.key()))?;
@@ -32,7 +31,7 @@ fn write_table<W: Write>(table: &Table, out: &mut W) -> io::Result<()> {
     writeln!(out)
 }
 
-fn write_stage<W: Write>(plan: &Plan, out: &mut W) -> io::Result<()> {
+fn write_stage(plan: &Plan, out: &mut String) -> Result<(), AllocError> {
     write!(out, "stage, shards {}", plan.stages())?;
     write!(out, ", cap {}: left", plan.cap())?;
     write_side(plan, plan.left(), out)?;
@@ -44,7 +43,7 @@ fn write_stage<W: Write>(plan: &Plan, out: &mut W) -> io::Result<()> {
     writeln!(out)
 }
 
-fn write_side<W: Write>(plan: &Plan, side: &Side, out: &mut W) -> io::Result<()> {
+fn write_side(plan: &Plan, side: &Side, out: &mut String) -> Result<(), AllocError> {
     write!(out, " {}", table_name(plan, side.table()))?;
     write!(out, " by {}", name_at(plan, side.table(), side.key()))?;
     match side.conditions().len() {
@@ -53,7 +52,7 @@ fn write_side<W: Write>(plan: &Plan, side: &Side, out: &mut W) -> io::Result<()>
     }
 }
 
-fn write_aggregate<W: Write>(plan: &Plan, out: &mut W) -> io::Result<()> {
+fn write_aggregate(plan: &Plan, out: &mut String) -> Result<(), AllocError> {
     let side = plan.right().unwrap_or(plan.left());
     match plan.aggregate() {
         None => Ok(()),
@@ -64,7 +63,7 @@ fn write_aggregate<W: Write>(plan: &Plan, out: &mut W) -> io::Result<()> {
     }
 }
 
-fn write_view<W: Write>(plan: &Plan, view: &ViewPlan, out: &mut W) -> io::Result<()> {
+fn write_view(plan: &Plan, view: &ViewPlan, out: &mut String) -> Result<(), AllocError> {
     write!(out, "view {}", view.name())?;
     write!(out, ", shards {}", view.shards())?;
     write!(
@@ -75,7 +74,7 @@ fn write_view<W: Write>(plan: &Plan, view: &ViewPlan, out: &mut W) -> io::Result
     writeln!(out, ", cap {}", view.cap())
 }
 
-fn write_tags<W: Write>(plan: &Plan, out: &mut W) -> io::Result<()> {
+fn write_tags(plan: &Plan, out: &mut String) -> Result<(), AllocError> {
     write!(out, "tags")?;
     for tag in plan.tags() {
         write!(out, " {}", tag.0)?;
@@ -84,7 +83,7 @@ fn write_tags<W: Write>(plan: &Plan, out: &mut W) -> io::Result<()> {
 }
 
 // How many edges there are, and their names where they are at most 12.
-fn write_edges<W: Write>(alloc: Global, plan: &Plan, out: &mut W) -> io::Result<()> {
+fn write_edges(alloc: Global, plan: &Plan, out: &mut String) -> Result<(), AllocError> {
     let edges = plan.edges(alloc)?;
     write!(out, ", edges {}", edges.len())?;
     if edges.len() <= 12 {

@@ -3,16 +3,15 @@ use crate::plans::table_name;
 use crate::words::words_of;
 use plan::plan::Plan;
 use script::columns::row_of;
-use std::alloc::Global;
-use std::io::{self, Write};
+use std::alloc::{AllocError, Global};
 
 /// Prints whether the row of `left ROW` or `right ROW` passes the conditions of that side.
-pub fn write_row<W: Write>(
+pub fn write_row(
     alloc: Global,
     plan: &Plan,
     question: &str,
-    out: &mut W,
-) -> io::Result<()> {
+    out: &mut String,
+) -> Result<(), AllocError> {
     let (name, line) = question.split_once(' ').unwrap_or((question, ""));
     let side = match name {
         "left" => Some(plan.left()),
