@@ -80,6 +80,13 @@ impl<J: Naming> Session<J> {
         let Ok(key) = key.try_clone(alloc) else {
             return Err(Refused::NoMemory);
         };
+        self.order(rt, place, key)
+    }
+
+    // Sends the order to evict a key to the view shard at a place.
+    fn order<R: Wait>(&self, rt: &R, place: usize, key: Value) -> Result<(), Refused>
+        ensures only { IfErr result (λ e. (e ≡ Refused.Stopped) ⊎ (e ≡ Refused.NoMemory)) }
+    {
         self.routes
             .to_view(rt, self.word.number(), place, ViewMail::Order { key })
     }
