@@ -10,5 +10,4 @@ mod Viewed
 mod Sending
 pub mod Ordered
 mod StageOrders
-mod Stopping
 mod Starting

@@ -2,4 +2,3 @@ pub mod Held
 pub mod Turned
 pub mod Machines
 pub mod Started
-pub mod Stopped

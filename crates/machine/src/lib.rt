@@ -1,5 +1,5 @@
-//! All domains of a plan and all edges between them in one value, and what moves in it: messages,
-//! orders and stops.
+//! All domains of a plan and all edges between them in one value, and what moves in it: messages and
+//! orders.
 #![tactic(auto)]
 
 pub mod bases;
@@ -8,6 +8,5 @@ pub mod machine;
 pub mod orders;
 pub mod stages;
 pub mod starts;
-pub mod stops;
 mod turns;
 pub mod views;

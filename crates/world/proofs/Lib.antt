@@ -8,3 +8,4 @@ mod Wanting
 mod Writing
 mod Listing
 mod Replaying
+mod Stopping

@@ -6,6 +6,7 @@ mod events;
 mod fences;
 mod reads;
 mod settles;
+mod stops;
 mod wants;
 pub mod world;
 mod writes;

@@ -1,6 +1,6 @@
 use Rattle.machine.specs.Machines.{held}
-use Rattle.machine.proofs.Stopping.{stop_done, stop_none, stop_other}
-use Rattle.machine.proofs.stops.stop.Goals as goal
+use Rattle.world.proofs.Stopping.{stop_done, stop_none, stop_other}
+use Rattle.world.proofs.stops.stop.Goals as goal
 
 pub stop_there-requires : goal.stop_there-requires
 stop_there-requires g c = record { placed = c.requires.whole.placed }

@@ -26,7 +26,7 @@ use Rattle.stage_domain.specs.Domains as stage_domain
 use Rattle.view_domain.specs.Domains.{Domain as ViewDomain}
 use Rattle.view_domain.specs.Domains as view_domain
 use Rattle.machine.specs.Held.{Held, Are, IsAt, IsPlaced, IsDone, IsBaseOf, IsStageOf, IsViewOf, KnowsOwn, world_of, base_node, stage_node, view_node, runs}
-use Rattle.machine.specs.Stopped.{stopped_at}
+use Rattle.world.specs.Stopped.{stopped_at}
 use Rattle.machine.proofs.Acks.{past_end}
 use Rattle.machine.proofs.Steps.{rebased, remade, set_are, told}
 

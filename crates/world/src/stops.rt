@@ -1,9 +1,10 @@
 //! Stops: a domain of the plan runs no more.
 ghost use Rattle.protocol.specs.WorldSteps.{stop_at};
 ghost use Rattle.schedule.specs.Codes.{reply_of};
-ghost use Rattle.machine.specs.{Held.IsAt, Held.IsDone, Held.IsPlaced, Held.IsWhole, Held.world_of, Machines.held, Stopped.stopped_at};
+ghost use Rattle.machine.specs.{Held.IsAt, Held.IsDone, Held.IsPlaced, Held.IsWhole, Held.world_of, Machines.held};
+ghost use Rattle.world.specs.{Stopped.stopped_at};
 
-use crate::machine::Machine;
+use machine::machine::Machine;
 use model::fronts::Fronts;
 use plan::domain::DomainId;
 use row::refused::Refused;
@@ -11,7 +12,7 @@ use schedule::event::Reply;
 use schedule::wire::Spot;
 
 /// A domain stops, if the plan has it.
-pub fn stop<F: Fronts>(machine: &mut Machine<F>, domain: Option<DomainId>) -> Reply
+pub(crate) fn stop<F: Fronts>(machine: &mut Machine<F>, domain: Option<DomainId>) -> Reply
     requires whole { IsWhole F.log F.authors (held machine.old) }
     ensures done { IsDone F.log F.authors
         (stop_at (world_of F.log F.authors (held machine.old)) domain) (reply_of result)

@@ -1,8 +1,8 @@
 use Rattle.std.proofs.Common.{arith}
 use Rattle.machine.specs.Machines.{held}
 use Rattle.machine.proofs.Meeting.{got_at}
-use Rattle.machine.proofs.Stopping.{base_stops, no_base_stops, no_stage_stops, no_view_stops, same_spot, stage_stops, view_stops}
-use Rattle.machine.proofs.stops.stop_there.Goals as goal
+use Rattle.world.proofs.Stopping.{base_stops, no_base_stops, no_stage_stops, no_view_stops, same_spot, stage_stops, view_stops}
+use Rattle.world.proofs.stops.stop_there.Goals as goal
 
 -- there is the domain
 pub returns-then-base-len : goal.returns-then-base-len
