@@ -1,5 +1,5 @@
 //! What ends a run.
-use recipe::error::PlanError;
+use document::error::PlanError;
 use replays::replay::ReplayError;
 use row::refused::Refused;
 use script::script::ScriptError;

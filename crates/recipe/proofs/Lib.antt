@@ -1,4 +1,2 @@
-pub mod Members
-pub mod Each
 pub mod Samples
 pub mod Read

@@ -10,13 +10,13 @@ use Rattle.plan.specs.declared.kinds.Kind.TheVariants as kind
 use Rattle.plan.specs.declared.kinds.Op.{Op}
 use Rattle.plan.specs.declared.kinds.Op.TheVariants as op
 use Rattle.toml.specs.Data.{Data, Items, no_items, item, Members, no_members, get, as_str, as_integer, as_array, as_table, table}
-use Rattle.recipe.specs.Words.{text_of, natural, whole_of, listed, items_of, members_of, has_only, kind_of, op_of, word_of, word_at_field, is_space, columns_of, side_columns, right_side_columns}
-use Rattle.recipe.specs.Checks.{Part, the_recipe, a_table, the_stage, a_condition, a_view, Field, fields_of, names_of, Checks, has_bytes, is_column, column_checks, if_any, field_checks, part_checks, no_checks, document_checks, is_sum}
+use Rattle.document.specs.Words.{text_of, natural, whole_of, listed, items_of, members_of, has_only, kind_of, op_of, word_of, word_at_field, is_space, columns_of, side_columns, right_side_columns}
+use Rattle.document.specs.Checks.{Part, the_recipe, a_table, the_stage, a_condition, a_view, Field, fields_of, names_of, Checks, has_bytes, is_column, column_checks, if_any, field_checks, part_checks, no_checks, document_checks, is_sum}
 use Rattle.recipe.specs.Drafts.{field_or, each_in, column_said, table_said, columns_said, tables_said, op_said, value_or_number, value_said, condition_said, right_of, told_columns_said, aggregate_of_word, left_said, right_said, aggregate_said, text_at, whole_at, view_said, stage_said, draft_said}
-use Rattle.recipe.specs.Fields.{◌>>=◌, StageLayout, kinded, text_in, whole_in, list_in, table_in, each, needed, optional, needed_text, needed_whole, paired, finish, column_named, column_at, columns_at, table_at, op_at, value_of, value_at, condition_at, conditions_at, word_at, aggregate_of, right_conditions, right_columns, told_columns, right_side, stage_at, view_at, tables_at, views_at, draft_at}
+use Rattle.document.specs.Fields.{◌>>=◌, StageLayout, kinded, text_in, whole_in, list_in, table_in, each, needed, optional, needed_text, needed_whole, paired, finish, column_named, column_at, columns_at, table_at, op_at, value_of, value_at, condition_at, conditions_at, word_at, aggregate_of, right_conditions, right_columns, told_columns, right_side, stage_at, view_at, tables_at, views_at, draft_at}
 use Rattle.recipe.specs.Plans.{unless, judged, plan_at}
-use Rattle.recipe.specs.declared.word.Word.{Word}
-use Rattle.recipe.specs.declared.word.Word.TheVariants as word
+use Rattle.document.specs.declared.word.Word.{Word}
+use Rattle.document.specs.declared.word.Word.TheVariants as word
 
 -- one step, and what follows
 bound : {X Y : Type 0} (cs ds : Checks) (x : X) (y : Y) (r : Result X ℕ) (f : X → Result Y ℕ) → r ≡ unless (first_refusal cs) x → f x ≡ unless (first_refusal ds) y → (r >>= f) ≡ unless (first_refusal (cs ++ ds)) y

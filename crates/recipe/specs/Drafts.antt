@@ -11,9 +11,9 @@ use Rattle.plan.specs.declared.kinds.Op.TheVariants as op
 use Rattle.plan.specs.declared.kinds.Aggregate.{Aggregate}
 use Rattle.plan.specs.declared.kinds.Aggregate.TheVariants.{Count, Sum}
 use Rattle.toml.specs.Data.{Data, no_members, get, as_str, as_integer, table}
-use Rattle.recipe.specs.Words.{text_of, whole_of, items_of, kind_of, op_of, word_at_field, is_space, column_place, table_place, columns_of, side_columns, right_side_columns, column_of_both}
-use Rattle.recipe.specs.declared.word.Word.{Word}
-use Rattle.recipe.specs.declared.word.Word.TheVariants as word
+use Rattle.document.specs.Words.{text_of, whole_of, items_of, kind_of, op_of, word_at_field, is_space, column_place, table_place, columns_of, side_columns, right_side_columns, column_of_both}
+use Rattle.document.specs.declared.word.Word.{Word}
+use Rattle.document.specs.declared.word.Word.TheVariants as word
 
 -- ---- what a field says
 abbrev pub field_or : {X : Type 0} → X → (Data → X) → Option Data → X

@@ -4,7 +4,7 @@ use Rattle.toml.specs.Data.{Data, Members, table}
 use Rattle.toml.specs.Parse.{parse_document}
 use Rattle.plan.specs.Layouts.{Layout}
 use Rattle.plan.specs.Profile.{checks, first_refusal, refusal}
-use Rattle.recipe.specs.Checks.{document_checks}
+use Rattle.document.specs.Checks.{document_checks}
 use Rattle.recipe.specs.Drafts.{draft_said}
 
 abbrev pub unless : {X : Type 0} → Option ℕ → X → Result X ℕ

@@ -3,11 +3,12 @@ ghost use Rattle.std.specs.Prelude.{◌≡◌, IfOk, IsErrOf, Err, None};
 ghost use Rattle.std.specs.Str.{IsUtf8};
 ghost use Rattle.toml.specs.{Parse.parse_document, View.view};
 ghost use Rattle.plan.specs.Profile.{IsPlan};
-ghost use Rattle.recipe.specs.{Errors.Gives, Plans.judged, Plans.plan_at, Plans.plan_of};
+ghost use Rattle.document.specs.{Errors.Gives};
+ghost use Rattle.recipe.specs.{Plans.judged, Plans.plan_at, Plans.plan_of};
 
-use crate::error::{Flaw, PlanError};
-use crate::reading::draft_at;
 use crate::spots::{key_spot, kind_spot, limit_spot, name_spot, path_spot, unknown_spot};
+use document::error::{Flaw, PlanError};
+use document::reading::draft_at;
 use plan::draft::Draft;
 use plan::plan::Plan;
 use std::alloc::Global;

@@ -1,6 +1,6 @@
 //! Where a draft fails a check. Only texts for people come of it: which check fails first is said
 //! by the checks themselves.
-use crate::error::{Part, Spot};
+use document::error::{Part, Spot};
 use plan::draft::Draft;
 use plan::names::is_name;
 use plan::plan::ViewPlan;

@@ -3,7 +3,7 @@
 use crate::plans::write_plan;
 use crate::rows::write_row;
 use plan::plan::Plan;
-use recipe::error::PlanError;
+use document::error::PlanError;
 use recipe::recipe::from_toml;
 use std::alloc::{AllocError, Global};
 use std::io::{self, Write};

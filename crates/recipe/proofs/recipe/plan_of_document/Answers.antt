@@ -1,6 +1,6 @@
 use Rattle.std.proofs.Common.{rules, subst}
 use Rattle.toml.specs.View.{view}
-use Rattle.recipe.specs.Errors.{Gives}
+use Rattle.document.specs.Errors.{Gives}
 use Rattle.recipe.proofs.Read.{plan_is}
 use Rattle.recipe.proofs.recipe.plan_of_document.Goals as goal
 

@@ -1,6 +1,6 @@
 //! The words that recipes have for kinds, comparisons and aggregates.
 ghost use Rattle.std.specs.Prelude.{◌≡◌};
-ghost use Rattle.recipe.specs.Words.{kind_of, op_of, word_of};
+ghost use Rattle.document.specs.Words.{kind_of, op_of, word_of};
 
 use plan::kinds::{Kind, Op};
 

@@ -9,8 +9,8 @@ use Rattle.plan.specs.declared.kinds.Kind.TheVariants as kind
 use Rattle.plan.specs.declared.kinds.Op.{Op}
 use Rattle.plan.specs.declared.kinds.Op.TheVariants as op
 use Rattle.toml.specs.Data.{Data, Items, no_items, item, Members, no_members, member, as_str, as_integer, as_array, as_table}
-use Rattle.recipe.specs.declared.word.Word.{Word}
-use Rattle.recipe.specs.declared.word.Word.TheVariants as word
+use Rattle.document.specs.declared.word.Word.{Word}
+use Rattle.document.specs.declared.word.Word.TheVariants as word
 
 -- ---- what a value says, and nothing, 0 or the like where it is of another kind
 abbrev pub text_of : Data → List ℕ

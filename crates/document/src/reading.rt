@@ -1,7 +1,7 @@
 //! Reading the parts of a document: the fields pass, which makes a draft.
 ghost use Rattle.std.specs.Prelude.{◌≡◌, codes};
 ghost use Rattle.toml.specs.{View.view, View.items_view, Data.get};
-ghost use Rattle.recipe.specs.{Errors.Gives, Words.side_columns, Words.right_side_columns, Fields.each, Fields.column_of, Fields.column_at, Fields.columns_at, Fields.table_at, Fields.tables_at, Fields.view_at, Fields.views_at, Fields.needed, Fields.draft_at};
+ghost use Rattle.document.specs.{Errors.Gives, Words.side_columns, Words.right_side_columns, Fields.each, Fields.column_of, Fields.column_at, Fields.columns_at, Fields.table_at, Fields.tables_at, Fields.view_at, Fields.views_at, Fields.needed, Fields.draft_at};
 
 use crate::error::{Flaw, Part, PlanError, Spot};
 use crate::fields::{list_in, table_in, text, text_in, whole};
@@ -222,7 +222,7 @@ fn right_side_columns<'a>(tables: &'a [Table], side: &Option<Side>) -> &'a [Colu
 /// another kind, or that recipes do not have (23). A name of a table or a column is read as its
 /// place.
 #[tactic(auto, unfolding(crate::specs::Fields::draft_at))]
-pub(crate) fn draft_at(alloc: Global, document: &Value) -> Result<Draft, PlanError>
+pub fn draft_at(alloc: Global, document: &Value) -> Result<Draft, PlanError>
     ensures { Gives (λ d. d) result (draft_at (view document.now)) }
 {
     let members = table_in(document, Part::Recipe.field("recipe"))?;

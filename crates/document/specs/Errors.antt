@@ -1,9 +1,9 @@
 -- The numbers of refusals, their names, and what a call answers.
 use Rattle.std.specs.Prelude.{◌≡◌, ℕ, List, codes, Result, Ok, Err}
-use Rattle.recipe.specs.declared.error.PlanError.{PlanError}
-use Rattle.recipe.specs.declared.error.PlanError.TheVariants as error
-use Rattle.recipe.specs.declared.error.Flaw.{Flaw}
-use Rattle.recipe.specs.declared.error.Flaw.TheVariants as flaw
+use Rattle.document.specs.declared.error.PlanError.{PlanError}
+use Rattle.document.specs.declared.error.PlanError.TheVariants as error
+use Rattle.document.specs.declared.error.Flaw.{Flaw}
+use Rattle.document.specs.declared.error.Flaw.TheVariants as flaw
 
 abbrev pub number_at : Flaw → ℕ
 number_at flaw.MissingField = 21

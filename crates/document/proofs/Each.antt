@@ -3,7 +3,7 @@ use Rattle.std.proofs.Common.{ℕ, List, ◌++◌, drop, Result, Ok}
 use Rattle.toml.specs.Data.{Data}
 use Rattle.toml.specs.View.{items_view}
 use Rattle.toml.specs.declared.value.Value.{Value}
-use Rattle.recipe.specs.Fields.{◌>>=◌, each}
+use Rattle.document.specs.Fields.{◌>>=◌, each}
 
 -- what was read before, and what is still read
 abbrev pub with_front : {X : Type 0} → List X → Result (List X) ℕ → Result (List X) ℕ

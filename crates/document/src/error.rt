@@ -3,7 +3,7 @@ ghost use Rattle.std.specs.Prelude.{◌≡◌};
 ghost use Rattle.std.proofs.Common.{rules};
 ghost use Rattle.std.specs.Cmp.Rules.{comparing};
 ghost use Rattle.std.specs.Ordering.{nat_cmp, on, eq_by_cmp};
-ghost use Rattle.recipe.specs.{Errors.number_at, Errors.name_at, Errors.number_of, Errors.name_of, declared.error.PlanError.TheVariants.NoMemory};
+ghost use Rattle.document.specs.{Errors.number_at, Errors.name_at, Errors.number_of, Errors.name_of, declared.error.PlanError.TheVariants.NoMemory};
 
 use std::alloc::AllocError;
 use std::fmt;

@@ -2,7 +2,7 @@
 ghost use Rattle.std.specs.Prelude.{◌≡◌};
 ghost use Rattle.std.specs.Option.{option_copied};
 ghost use Rattle.toml.specs.{Data.get, View.view, View.array_view, View.table_view};
-ghost use Rattle.recipe.specs.{Errors.Gives, Words.natural, Fields.text_in, Fields.whole_in, Fields.list_in, Fields.table_in, Fields.needed_text, Fields.needed_whole, Fields.optional, Fields.paired};
+ghost use Rattle.document.specs.{Errors.Gives, Words.natural, Fields.text_in, Fields.whole_in, Fields.list_in, Fields.table_in, Fields.needed_text, Fields.needed_whole, Fields.optional, Fields.paired};
 
 use crate::error::{Flaw, Part, Place, PlanError};
 use toml::value::Array;

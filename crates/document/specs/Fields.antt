@@ -10,10 +10,10 @@ use Rattle.plan.specs.declared.kinds.Op.{Op}
 use Rattle.plan.specs.declared.kinds.Aggregate.{Aggregate}
 use Rattle.plan.specs.declared.kinds.Aggregate.TheVariants.{Count, Sum}
 use Rattle.toml.specs.Data.{Data, Items, no_items, item, Members, get, as_str, as_integer, as_array, as_table}
-use Rattle.recipe.specs.Words.{natural, has_only, kind_of, op_of, word_of, is_space, column_place, table_place, columns_of, side_columns, right_side_columns, column_of_both}
-use Rattle.recipe.specs.Checks.{the_recipe, a_table, the_stage, a_condition, a_view, names_of, missing, mistyped}
-use Rattle.recipe.specs.declared.word.Word.{Word}
-use Rattle.recipe.specs.declared.word.Word.TheVariants as word
+use Rattle.document.specs.Words.{natural, has_only, kind_of, op_of, word_of, is_space, column_place, table_place, columns_of, side_columns, right_side_columns, column_of_both}
+use Rattle.document.specs.Checks.{the_recipe, a_table, the_stage, a_condition, a_view, names_of, missing, mistyped}
+use Rattle.document.specs.declared.word.Word.{Word}
+use Rattle.document.specs.declared.word.Word.TheVariants as word
 
 -- the first fault ends the reading
 infixl 10 ◌>>=◌

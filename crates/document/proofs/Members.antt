@@ -4,7 +4,7 @@ use Rattle.std.specs.List.{list_all}
 use Rattle.std.specs.BTreeMap.{keys}
 use Rattle.toml.specs.declared.value.Value.{Value}
 use Rattle.toml.specs.View.{members_view, table_view}
-use Rattle.recipe.specs.Words.{is_one_of, has_only}
+use Rattle.document.specs.Words.{is_one_of, has_only}
 
 only_entries : (names : List (List ℕ)) (es : List (String Global × Value)) → has_only names (members_view es) ≡ list_all (λ (k : String Global). is_one_of names (string_bytes k)) (map (λ e. e.0) es)
 only_entries names [] = refl

@@ -3,9 +3,9 @@ use Rattle.std.specs.Prelude.{ℕ, Bool, true, false, ◌&&◌, ◌||◌, not, L
 use Rattle.std.specs.List.{before_first, after_first}
 use Rattle.std.specs.Option.{is_some}
 use Rattle.toml.specs.Data.{Data, get, as_str, as_integer, as_array, as_table}
-use Rattle.recipe.specs.Words.{text_of, items_of, members_of, has_only, kind_of, op_of, word_of, word_at_field, is_space}
-use Rattle.recipe.specs.declared.word.Word.{Word}
-use Rattle.recipe.specs.declared.word.Word.TheVariants as word
+use Rattle.document.specs.Words.{text_of, items_of, members_of, has_only, kind_of, op_of, word_of, word_at_field, is_space}
+use Rattle.document.specs.declared.word.Word.{Word}
+use Rattle.document.specs.declared.word.Word.TheVariants as word
 
 -- the parts that have fields
 pub data Part : Type 0 where

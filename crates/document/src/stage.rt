@@ -1,7 +1,7 @@
 //! Reading the stage of a document, and its conditions.
 ghost use Rattle.std.specs.Prelude.{◌≡◌, [], None, codes, option_map};
 ghost use Rattle.std.specs.Option.{option_copied};
-ghost use Rattle.recipe.specs.{Errors.Gives, Words.columns_of, Fields.each, Fields.needed, Fields.optional, Fields.op_at, Fields.value_at, Fields.condition_at, Fields.conditions_at, Fields.word_at, Fields.aggregate_of, Fields.right_conditions, Fields.right_columns, Fields.told_columns, Fields.side_of, Fields.right_side, Fields.stage_at};
+ghost use Rattle.document.specs.{Errors.Gives, Words.columns_of, Fields.each, Fields.needed, Fields.optional, Fields.op_at, Fields.value_at, Fields.condition_at, Fields.conditions_at, Fields.word_at, Fields.aggregate_of, Fields.right_conditions, Fields.right_columns, Fields.told_columns, Fields.side_of, Fields.right_side, Fields.stage_at};
 ghost use Rattle.toml.specs.{Data.get, View.view, View.items_view};
 ghost use Rattle.row.specs.Cells.{datum_of};
 
@@ -295,7 +295,7 @@ pub(crate) struct StageParts {
 }
 
 impl Model for StageParts {
-    ghost use Rattle.recipe.specs.Fields.{StageLayout};
+    ghost use Rattle.document.specs.Fields.{StageLayout};
 
     ghost Value = { StageLayout };
 

@@ -5,7 +5,7 @@ ghost use Rattle.std.specs.List.{list_all};
 ghost use Rattle.std.specs.Str.{bytes_eq};
 ghost use Rattle.plan.specs.Layouts.{ColumnLayout, TableLayout, no_table};
 ghost use Rattle.toml.specs.View.{table_view};
-ghost use Rattle.recipe.specs.Words.{is_one_of, has_only, is_field, column_place, table_place, column_of_both};
+ghost use Rattle.document.specs.Words.{is_one_of, has_only, is_field, column_place, table_place, column_of_both};
 
 use plan::table::{Column, Table};
 use toml::value::Table as Members;

@@ -1,0 +1,4 @@
+pub mod Errors
+pub mod Words
+pub mod Checks
+pub mod Fields
