@@ -2,8 +2,8 @@
 //! behind `? ` at the beginning of a line.
 use crate::plans::write_plan;
 use crate::rows::write_row;
-use plan::plan::Plan;
 use document::error::PlanError;
+use plan::plan::Plan;
 use recipe::recipe::from_toml;
 use std::alloc::{AllocError, Global};
 use std::io::{self, Write};
