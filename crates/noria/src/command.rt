@@ -20,14 +20,12 @@ const USAGE: &str =
 /// the memory or the output was refused, with the refusal on `err`; 2 for any words but
 /// `run RECIPE SCRIPT`, `race RECIPE SCRIPT..` and `replay RECIPE SCHEDULE`, with the usage line
 /// there. A failed write to `err` leaves the status as it is. All threads that it starts have ended.
-pub fn command<R: Threads + Wait + Copy + Drop + Send + 'static, T: Texts, O: Write, E: Write>(
-    rt: R,
-    alloc: Global,
-    words: &[String],
-    texts: &mut T,
-    out: &mut O,
-    err: &mut E,
-) -> u8
+pub fn command<
+    R: Threads + Wait + Copy + Drop + Send + Sync + 'static,
+    T: Texts,
+    O: Write,
+    E: Write,
+>(rt: R, alloc: Global, words: &[String], texts: &mut T, out: &mut O, err: &mut E) -> u8
     ensures status { result ≤ 2 }
     ensures usage { (result == 2) ≡ not (is_form (map string_bytes words.now)) }
 {

@@ -1,9 +1,8 @@
 //! The forms of the program: each reads and checks what its files have, and then runs it.
 use crate::fault::Fault;
-use crate::files::{calls_named, plan_named};
+use crate::files::{calls_named, calls_of_all, plan_named};
 use crate::texts::Texts;
 use replays::replay::replay_text;
-use row::refused::Refused;
 use runner::play::{Play, start};
 use std::alloc::Global;
 use std::io::Write;
@@ -31,7 +30,7 @@ pub fn run_files<R: Threads + Wait + Copy + Drop + Send + 'static, T: Texts, O: 
 /// runs all scripts at once. It writes what each came to, then makes one fence in a session that
 /// has met all others, and the closing reads of all scripts in order. `NoSessionLeft` where there
 /// are more than fifteen scripts. All threads that it starts have ended.
-pub fn race_files<R: Threads + Wait + Copy + Drop + Send + 'static, T: Texts, O: Write>(
+pub fn race_files<R: Threads + Wait + Copy + Drop + Send + Sync + 'static, T: Texts, O: Write>(
     rt: R,
     alloc: Global,
     recipe: &str,
@@ -40,11 +39,7 @@ pub fn race_files<R: Threads + Wait + Copy + Drop + Send + 'static, T: Texts, O:
     out: &mut O,
 ) -> Result<(), Fault> {
     let plan = plan_named(alloc, recipe, texts)?;
-    let mut all = Vec::new(alloc);
-    for script in scripts {
-        let calls = calls_named(alloc, script.as_str(), texts)?;
-        all.push(calls).map_err(|_| Refused::NoMemory)?;
-    }
+    let all = calls_of_all(&rt, alloc, scripts, texts)?;
     Ok(start(rt, alloc, plan, Play::Race(all), out)?)
 }
 
