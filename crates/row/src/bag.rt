@@ -67,14 +67,6 @@ impl Bag {
         Ok(Bag { rows })
     }
 
-    /// The same rows, each in memory of its own. Errors: memory only. Cost: a copy of each row.
-    pub fn apart(&self, alloc: Global) -> Result<Bag, AllocError>
-        ensures { IfOk result (λ b. b ≡ self.now) }
-    {
-        let rows = apart(alloc, self.rows())?;
-        Ok(Bag { rows })
-    }
-
     /// How many rows there are, a repeat counted each time. Constant time.
     pub fn len(&self) -> usize
         ensures { result ≡ length self.now }
@@ -220,17 +212,6 @@ fn copies(alloc: Global, rows: &[Row]) -> Result<Vec<Row>, AllocError>
     let mut all = Vec::with_capacity(alloc, rows.len())?;
     for row in rows {
         all.push(row.try_clone(alloc)?)?;
-    }
-    Ok(all)
-}
-
-/// The same rows, each in memory of its own.
-fn apart(alloc: Global, rows: &[Row]) -> Result<Vec<Row>, AllocError>
-    ensures { IfOk result (λ v. v.items ≡ rows.now) }
-{
-    let mut all = Vec::with_capacity(alloc, rows.len())?;
-    for row in rows {
-        all.push(row.apart(alloc)?)?;
     }
     Ok(all)
 }

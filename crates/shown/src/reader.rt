@@ -85,7 +85,8 @@ impl<J: Naming> ShownReader<J> {
     /// Looks a key up in what is shown, which is true and no less than what it has seen: a hit has
     /// the rows and the cut of one look, a miss says that the key was not shown. It waits for
     /// nobody. Errors: `NoMemory`, also where the writer is gone; it may then have seen more. Cost:
-    /// one look-up by hash, and copies of the rows and of the cut.
+    /// one look-up by hash, a step on the count of each row, which other readers touch too, and a
+    /// copy of the cut.
     pub fn look(&mut self, alloc: Global, key: &Value) -> Result<Look<J>, Refused>
         ensures later { IsLater self.old self.new }
         ensures truth { IfOk result (λ _. IsTrue J.plan self.new) }
@@ -212,5 +213,5 @@ fn found<J: Naming>(alloc: Global, shown: &Shown<J>, key: &Value) -> Result<Look
     let Some(rows) = shown.entry(key) else {
         return Ok(Look::Miss);
     };
-    Ok(Look::Hit(rows.apart(alloc)?, shown.cut().try_clone(alloc)?))
+    Ok(Look::Hit(rows.try_clone(alloc)?, shown.cut().try_clone(alloc)?))
 }
