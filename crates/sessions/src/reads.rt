@@ -56,7 +56,8 @@ impl<J: Naming> Session<J> {
     /// or its word was found moved before, `UnknownView`, `BadKey` where the key is no cell of the
     /// key column; then `NoMemory`, or `Stolen` where its word was moved by another. A refused read
     /// leaves the floors and what was accepted, and but for `Stolen` what was seen. Cost: a look at
-    /// each view's name, one look-up, a step on the count of each row, and two copies of the cut.
+    /// each view's name, one look-up, a list of the rows with a step on the count of each, and two
+    /// copies of the cut.
     pub fn try_read(&mut self, alloc: Global, view: &str, key: &Value) -> Result<Found, Refused>
         ensures { Tries J.plan J.sessions self.old self.new view.now (datum_of key.now) result }
     {

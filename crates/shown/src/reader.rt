@@ -85,8 +85,8 @@ impl<J: Naming> ShownReader<J> {
     /// Looks a key up in what is shown, which is true and no less than what it has seen: a hit has
     /// the rows and the cut of one look, a miss says that the key was not shown. It waits for
     /// nobody. Errors: `NoMemory`, also where the writer is gone; it may then have seen more. Cost:
-    /// one look-up by hash, a step on the count of each row, which other readers touch too, and a
-    /// copy of the cut.
+    /// one look-up by hash, a list of the rows with a step on the count of each, which other
+    /// readers touch too, and a copy of the cut.
     pub fn look(&mut self, alloc: Global, key: &Value) -> Result<Look<J>, Refused>
         ensures later { IsLater self.old self.new }
         ensures truth { IfOk result (λ _. IsTrue J.plan self.new) }
@@ -202,7 +202,7 @@ fn asked_by<J: Naming>(
     }
 }
 
-// A copy of the key's entry and of the cut.
+// The key's entry and a copy of the cut.
 fn found<J: Naming>(alloc: Global, shown: &Shown<J>, key: &Value) -> Result<Look<J>, Refused>
     ensures hit { IfOk result (OnHit (λ rows cut.
         (shown_at shown.now.rows (datum_of key.now) ≡ Some rows)
