@@ -6,9 +6,12 @@ use std::alloc::{AllocError, AllocFailed, Global};
 use std::collections::VecDeque;
 use std::marker::Model;
 
-/// Queues of messages, one for each edge. A contract sees a list of lists. Room that a queue has
-/// once taken it keeps, so that queues which are filled and emptied in turn soon take no more
-/// memory.
+/// For how many messages an empty queue keeps room.
+const KEPT: usize = 256;
+
+/// Queues of messages, one for each edge. A contract sees a list of lists. Room for up to 256
+/// messages that a queue has once taken it keeps, so that queues which are filled and emptied in
+/// turn soon take no more memory; the room of more it gives back when it is empty.
 #[derive(Drop)]
 pub struct Queues<T: Drop> {
     waiting: Vec<Waiting<T>>,
@@ -101,7 +104,11 @@ impl<T: Drop> Waiting<T> {
         ensures first { result ≡ slice_get self.old 0 }
         ensures rest { self.new ≡ drop 1 self.old }
     {
-        self.messages.pop_front()
+        let first = self.messages.pop_front();
+        if self.messages.is_empty() && self.messages.capacity() > KEPT {
+            self.messages.shrink_to(KEPT);
+        }
+        first
     }
 
     fn put(&mut self, message: T) -> Result<(), AllocFailed<T>>
