@@ -63,7 +63,7 @@ pub struct Reading<'a> {
     view: usize,
     cut: &'a Lengths,
     key: &'a Value,
-    rows: &'a Vec<Row>,
+    rows: &'a [Row],
 }
 
 impl<'a> Plain<Reading<'a>, LogPage, u64> for Add {
@@ -72,7 +72,7 @@ impl<'a> Plain<Reading<'a>, LogPage, u64> for Add {
     ghost use Rattle.book.specs.Pages.{adds};
     ghost use Rattle.row.specs.Cells.{datum_of};
 
-    ghost ask = { λ r. adds (read r.session r.view (datum_of r.key.now) r.rows.now.items
+    ghost ask = { λ r. adds (read r.session r.view (datum_of r.key.now) r.rows.now
         r.cut.now) };
 
     ghost state = { λ r. None };
@@ -168,19 +168,19 @@ impl<J: Naming> SessionWord<J> {
         view: usize,
         shard: usize,
         key: &Value,
-        rows: &Vec<Row>,
+        rows: &[Row],
         cut: Cut<J>,
     ) -> Result<(), Moved>
         requires view { view < length J.plan.views }
         requires shard { shard ≡ view_shard J.plan view (datum_of key.now) }
         requires within { shard < (view_at J.plan view).shards }
         requires floor { IsAtMost (floor_at self.old.floors view shard) cut.lengths }
-        requires rows { rows.now.items ≡ answer_of J.plan (fronts J.plan cut) view
+        requires rows { rows.now ≡ answer_of J.plan (fronts J.plan cut) view
             (datum_of key.now) }
         requires room { self.old.answered + 1 < 2 ^ 64 }
         ensures others { IsPrefix cut.seen self.new.seen }
         ensures answered { OnOk result (IsRead J.plan self.old view shard (datum_of key.now)
-            rows.now.items cut.lengths self.new) }
+            rows.now cut.lengths self.new) }
         ensures stolen { OnErr result (IsStolen J.plan self.old self.new) }
     {
         learn::<J>(&mut self.seen, &cut.seen);

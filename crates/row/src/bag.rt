@@ -51,14 +51,6 @@ impl Bag {
         &self.rows
     }
 
-    /// The rows in order, which are no bag any more. Constant time.
-    pub fn into_rows(self) -> Vec<Row>
-        ensures { result.items ≡ self }
-    {
-        let Bag { rows } = self;
-        rows
-    }
-
     /// The same rows. Errors: memory only. Cost: that of `Row::try_clone` for each row.
     pub fn try_clone(&self, alloc: Global) -> Result<Bag, AllocError>
         ensures { IfOk result (λ b. b ≡ self.now) }

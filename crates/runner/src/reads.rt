@@ -36,7 +36,7 @@ pub(crate) fn write_found<O: Write>(found: &Found, out: &mut O) -> io::Result<()
 
 fn write_rows<O: Write>(answer: &Answer, out: &mut O) -> io::Result<()> {
     writeln!(out, "rows {} cut {}", answer.rows.len(), answer.cut)?;
-    for row in answer.rows.as_slice() {
+    for row in answer.rows.rows() {
         writeln!(out, "{row}")?;
     }
     Ok(())

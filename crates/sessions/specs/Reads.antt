@@ -22,7 +22,7 @@ use Rattle.sessions.specs.declared.reads.Found.TheVariants.{Hit, Miss}
 
 -- what holds of the rows and the cut of a hit
 abbrev pub OnHit : (List Cells → Lengths → Type 0) → Found → Type 0
-OnHit P (Hit answer) = P answer.rows.items answer.cut
+OnHit P (Hit answer) = P answer.rows answer.cut
 OnHit P Miss = Unit {0}
 
 -- what holds at a miss
@@ -109,5 +109,5 @@ pub record Tries (p : Layout) (sessions : ℕ) (old new : Caller) (name : List �
 pub record Answers (p : Layout) (sessions : ℕ) (old new : Caller) (name : List ℕ) (k : Datum) (r : Result Answer Refused) : Type 0 where
   pub legal : IsLegal p sessions new.seen
   pub why : IfSome (asked_refusal p old name k) (λ e. (r ≡ Err e) × (new ≡ old))
-  pub answer : IfOk r (λ a. Reads p old new name k a.rows.items a.cut)
+  pub answer : IfOk r (λ a. Reads p old new name k a.rows a.cut)
   pub refused : IfErr r (λ e. (asked_refusal p old name k ≡ Some e) ⊎ IsUnanswered old new e)

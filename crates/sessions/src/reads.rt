@@ -17,20 +17,19 @@ use calls::want::fill;
 use model::lengths::Lengths;
 use plan::plan::Plan;
 use routes::routes::Routes;
-use row::bag::Bag;
 use row::refused::Refused;
-use row::row::Row;
 use row::value::{Value, shard_of};
 use schedule::arguments::read_target;
 use schedule::readers::place_of;
 use shown::reader::Look;
+use shown::rows::SharedRows;
 use std::alloc::Global;
 use std::sync::Wait;
 
 /// The rows of a key in order, and the cut over which they are the query's.
 #[derive(Drop)]
 pub struct Answer {
-    pub rows: Vec<Row>,
+    pub rows: SharedRows,
     pub cut: Lengths,
 }
 
@@ -56,8 +55,8 @@ impl<J: Naming> Session<J> {
     /// or its word was found moved before, `UnknownView`, `BadKey` where the key is no cell of the
     /// key column; then `NoMemory`, or `Stolen` where its word was moved by another. A refused read
     /// leaves the floors and what was accepted, and but for `Stolen` what was seen. Cost: a look at
-    /// each view's name, one look-up, a list of the rows with a step on the count of each, and two
-    /// copies of the cut.
+    /// each view's name, one look-up, a step on the count of the key's rows, and two copies of the
+    /// cut.
     pub fn try_read(&mut self, alloc: Global, view: &str, key: &Value) -> Result<Found, Refused>
         ensures { Tries J.plan J.sessions self.old self.new view.now (datum_of key.now) result }
     {
@@ -126,24 +125,23 @@ impl<J: Naming> Session<J> {
         alloc: Global,
         view: usize,
         key: &Value,
-        rows: Bag,
+        rows: SharedRows,
         cut: Cut<J>,
     ) -> Result<Answer, Refused>
         requires view { view < length J.plan.views }
         requires number { self.old.number < last_number }
         requires found { Finds J.plan self.old.shown view (datum_of key.now) rows cut }
         ensures read { IfOk result (λ a.
-            IsRead J.plan self.old self.new view (datum_of key.now) a.rows.items a.cut) }
+            IsRead J.plan self.old self.new view (datum_of key.now) a.rows a.cut) }
         ensures refused { IfErr result (λ e. IsUnread self.old self.new e) }
     {
-        let rows = rows.into_rows();
         let lengths = cut.lengths().try_clone(alloc)?;
         let shard = key_shard(self.plan(), view, key);
         self.number += 1;
         self.word.learn(&self.seen);
         let answered = self
             .word
-            .answer(self.routes.book(), view, shard, key, &rows, cut);
+            .answer(self.routes.book(), view, shard, key, rows.rows(), cut);
         self.seen = self.word.part();
         match answered {
             Ok(()) => Ok(Answer { rows, cut: lengths }),
@@ -175,7 +173,7 @@ impl<J: Naming> Session<J> {
         ensures why { IfSome (asked_refusal J.plan self.old view.now (datum_of key.now))
             (λ e. (result ≡ Err e) × (self.new ≡ self.old)) }
         ensures answer { IfOk result (λ a.
-            Reads J.plan self.old self.new view.now (datum_of key.now) a.rows.items a.cut) }
+            Reads J.plan self.old self.new view.now (datum_of key.now) a.rows a.cut) }
         ensures refused { IfErr result (λ e. (asked_refusal J.plan self.old view.now
             (datum_of key.now) ≡ Some e) ⊎ IsUnanswered self.old self.new e) }
     {
@@ -191,7 +189,7 @@ impl<J: Naming> Session<J> {
         requires view { view < length J.plan.views }
         requires number { self.old.number < last_number }
         ensures answer { IfOk result (λ a.
-            IsRead J.plan self.old self.new view (datum_of key.now) a.rows.items a.cut) }
+            IsRead J.plan self.old self.new view (datum_of key.now) a.rows a.cut) }
         ensures refused { IfErr result (λ e. IsUnanswered self.old self.new e) }
     {
         let mut turns = ReadTurns::new();

@@ -6,6 +6,7 @@
 pub mod delta;
 mod entries;
 pub mod reader;
+pub mod rows;
 mod rule;
 mod shown;
 pub mod writer;

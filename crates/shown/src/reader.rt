@@ -5,13 +5,13 @@ ghost use Rattle.book.specs.Sessions.{fronts};
 ghost use Rattle.row.specs.Cells.{datum_of};
 ghost use Rattle.shown.specs.{Looks.OnHit, Looks.OnMiss, Snapshots.Snapshot, Snapshots.IsLater, Snapshots.IsTrue, Snapshots.shown_at, Sights.HasLooked, Sights.IsOf, Sights.seen_or, Sights.nothing};
 
+use crate::rows::SharedRows;
 use crate::rule::{Looks, Published, Sight};
 use crate::shown::Shown;
 use book::cut::Cut;
 use book::law::Naming;
 use core::mem::replace_with;
 use left_right::reader::Reader;
-use row::bag::Bag;
 use row::refused::Refused;
 use row::value::Value;
 use std::alloc::{AllocError, Global};
@@ -41,7 +41,7 @@ impl<J: Naming> Model for ShownReader<J> {
 /// key is not shown.
 #[derive(Drop)]
 pub enum Look<J: Naming> {
-    Hit(Bag, Cut<J>),
+    Hit(SharedRows, Cut<J>),
     Miss,
 }
 
@@ -85,8 +85,8 @@ impl<J: Naming> ShownReader<J> {
     /// Looks a key up in what is shown, which is true and no less than what it has seen: a hit has
     /// the rows and the cut of one look, a miss says that the key was not shown. It waits for
     /// nobody. Errors: `NoMemory`, also where the writer is gone; it may then have seen more. Cost:
-    /// one look-up by hash, a list of the rows with a step on the count of each, which other
-    /// readers touch too, and a copy of the cut.
+    /// one look-up by hash, a step on the count of the key's rows, which other readers touch too,
+    /// and a copy of the cut.
     pub fn look(&mut self, alloc: Global, key: &Value) -> Result<Look<J>, Refused>
         ensures later { IsLater self.old self.new }
         ensures truth { IfOk result (λ _. IsTrue J.plan self.new) }

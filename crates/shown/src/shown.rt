@@ -8,13 +8,13 @@ ghost use Rattle.shown.specs.Snapshots.{first_of, shown_at, with_change};
 
 use crate::delta::{Delta, Moved};
 use crate::entries::Entries;
+use crate::rows::SharedRows;
 use crate::rule::Shot;
 use book::cut::Cut;
 use book::law::Naming;
 use book::part::Part;
 use left_right::Absorb;
 use plan::plan::Plan;
-use row::bag::Bag;
 use row::value::Value;
 use std::alloc::{AllocError, Global};
 use std::marker::Model;
@@ -70,7 +70,7 @@ impl<J: Naming> Shown<J> {
     }
 
     /// The rows of a key, where it is shown. Takes no memory. Constant time.
-    pub fn entry(&self, key: &Value) -> Option<&Bag>
+    pub fn entry(&self, key: &Value) -> Option<&SharedRows>
         ensures { option_copied result ≡ shown_at self.now.rows (datum_of key.now) }
     {
         self.rows.get(key)
@@ -100,7 +100,7 @@ impl<J: Naming> Shown<J> {
     {
         match change {
             KeyChange::Fills { key, rows } => {
-                let rows = rows.try_clone(self.alloc)?;
+                let rows = SharedRows::new(self.alloc, rows.try_clone(self.alloc)?)?;
                 let key = key.try_clone(self.alloc)?;
                 self.rows.put(key, rows)
             }

@@ -1,9 +1,11 @@
-//! Sessions of a system that has stopped, sessions that meet, and four at once.
-use crate::asks::{Caller, Running, Work, expect};
+//! Sessions of a system that has stopped, answers that are kept, sessions that meet, and four at once.
+use crate::asks::{Caller, Running, Work, expect, fail};
 use crate::runs::{Scene, run_notes};
 use crate::steps::{Call, Step, Told};
 use book::law::Naming;
 use row::refused::Refused;
+use row::value::Value;
+use sessions::reads::Found;
 use std::alloc::{AllocError, Global};
 use std::sync::Wait;
 use std::test::Fail;
@@ -44,6 +46,33 @@ fn used<J: Naming + Send + Sync + 'static, R: Threads + Wait + Copy + Drop + Sen
     let mut caller = running.next()?;
     caller.make_all(BEFORE_STOP)?;
     Ok(caller)
+}
+
+#[test]
+fn an_answer_that_is_kept(rt: HostRuntime) -> Result<(), Fail> {
+    run_notes(rt, rt.alloc(), 1, Scene::Kept)
+}
+
+const AFTER_LOOK: &[Step] = &[
+    (Call::Insert(2), Ok(Told::Index(1))),
+    (Call::Fence, Ok(Told::Fenced)),
+    (Call::Read(7), Ok(Told::Rows(2, 2))),
+];
+
+// An answer keeps its row while its key takes another.
+pub fn calls_of_kept<
+    J: Naming + Send + Sync + 'static,
+    R: Threads + Wait + Copy + Drop + Send + 'static,
+>(running: &mut Running<J, R>) -> Result<(), Fail> {
+    let mut caller = used(running)?;
+    let kept = caller
+        .look("by_author", &Value::Int(7), false)
+        .map_err(fail)?;
+    caller.make_all(AFTER_LOOK)?;
+    match kept {
+        Found::Hit(answer) => expect(answer.rows.len() == 1),
+        Found::Miss => expect(false),
+    }
 }
 
 #[test]

@@ -19,6 +19,7 @@ use workers::gate::{Gate, OpenGate};
 #[derive(Clone, Copy)]
 pub enum Scene {
     FourSessions,
+    Kept,
     Meeting,
     Stopped,
     Lines(&'static [Line]),
@@ -91,6 +92,7 @@ fn play<J: Naming + Send + Sync + 'static, R: Threads + Wait + Copy + Drop + Sen
 ) -> Result<(), Fail> {
     let played = match scene {
         Scene::FourSessions => callers::calls_of_four(&mut running),
+        Scene::Kept => callers::calls_of_kept(&mut running),
         Scene::Meeting => callers::calls_of_two(&mut running),
         Scene::Lines(lines) => insert_lines(&mut running, lines),
         Scene::Stopped => return callers::calls_of_stopped(running),
