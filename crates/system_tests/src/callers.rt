@@ -57,9 +57,13 @@ const AFTER_LOOK: &[Step] = &[
     (Call::Insert(2), Ok(Told::Index(1))),
     (Call::Fence, Ok(Told::Fenced)),
     (Call::Read(7), Ok(Told::Rows(2, 2))),
+    (Call::Insert(4), Ok(Told::Index(2))),
+    (Call::Fence, Ok(Told::Fenced)),
+    (Call::Read(7), Ok(Told::Rows(3, 3))),
 ];
 
-// An answer keeps its row while its key takes another.
+// An answer keeps its row while its key takes two more: each changes the copy that the one before it
+// left behind.
 pub fn calls_of_kept<
     J: Naming + Send + Sync + 'static,
     R: Threads + Wait + Copy + Drop + Send + 'static,
