@@ -1,15 +1,14 @@
 -- What an entry does to rows in order, and at a front.
-use Rattle.std.proofs.Common.{◌≡◌, ℕ, ◌+◌, not, cond, List, [], ◌∷◌, ◌++◌, length, length-append, Option, Some, None, Err, refl, ap, sym, ◌∙◌, arith}
+use Rattle.std.proofs.Common.{◌≡◌, ℕ, ◌+◌, not, cond, List, [], ◌∷◌, ◌++◌, length, length-append, refl, ap, sym, ◌∙◌, arith}
 use Rattle.row.specs.Cells.{Cells, cell_at, has, row_cmp}
 use Rattle.row.specs.CellOrder.{row_total, row_same}
 use Rattle.row.specs.Bags.{sorted, IsAlike}
 use Rattle.row.proofs.BagLemmas.{times-append}
 use Rattle.row.proofs.Alike.{filter_alike, sorted_alike}
-use Rattle.row.specs.declared.refused.Refused.{Refused}
 use Rattle.model.specs.Logs.{Change, inserts, deletes, updates, changed, rows_of}
 use Rattle.model.specs.Refusals.{refusal, refusal_over}
 use Rattle.model.proofs.LogLaws.{rows_of-push}
-use Rattle.base.specs.Shards.{Shard, IsAt, verdict}
+use Rattle.base.specs.Shards.{Shard, IsAt}
 use Rattle.base.proofs.Orders.{any_sorted, sorted_self, map_alike}
 
 -- one bag before, one bag after
@@ -44,8 +43,3 @@ at_next old new front e key count rows at = record {
 -- shards of one content refuse the same
 pub same_refusal : (a b : Shard) (e f : Change) → a.key ≡ b.key → a.limit ≡ b.limit → a.rows ≡ b.rows → a.length ≡ b.length → e ≡ f → refusal_over a.key a.limit a.rows a.length e ≡ refusal_over b.key b.limit b.rows b.length f
 same_refusal a b e f key most rows len is = cc
-
--- what a check refuses with is the refusal
-pub refused_verdict : (r : Refused) (o : Option Refused) → Err r ≡ verdict o → o ≡ Some r
-refused_verdict r None e = absurd cc
-refused_verdict r (Some q) e = cc

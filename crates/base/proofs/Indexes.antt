@@ -26,9 +26,6 @@ use Rattle.base.specs.Indexed.{reaching, IsOf, with_waiting, IsIndex, AreIndexes
 lt_true : (a b : ℕ) → a < b → nat_lt a b ≡ true
 lt_true a b h = grind (arith, nat_tests)
 
-lt_false : (a b : ℕ) → b ≤ a → nat_lt a b ≡ false
-lt_false a b h = grind (arith, nat_tests)
-
 -- ---- a row more
 pub added_wide : (old new : RowsBy) (row : Cells) (others : List Cells) → old.column < length row → new ≡ record old { rows = inserted row_cmp row old.rows } → IsOf old others → IsOf new (row ∷ others)
 added_wide old new row others reach is h =
@@ -37,9 +34,6 @@ added_wide old new row others reach is h =
     step : (b : Bool) → b ≡ true → IsAlike row_cmp (inserted row_cmp row old.rows) (cond b (row ∷ reaching old.column others) (reaching old.column others))
     step true e = record { each = λ z. times-inserted row_cmp z row old.rows ∙ ap (λ n. one row_cmp z row + n) (h.each z) }
     step false e = absurd cc
-
-pub added_narrow : (g : RowsBy) (row : Cells) (others : List Cells) → length row ≤ g.column → IsOf g others → IsOf g (row ∷ others)
-added_narrow g row others short h = rw (lt_false g.column (length row) short) h
 
 -- ---- a row less
 pub taken_there : (g : RowsBy) (row : Cells) (others : List Cells) → g.column < length row → IsOf g (row ∷ others) → 0 < times row_cmp row g.rows
@@ -64,11 +58,6 @@ taken_wide old new row others reach is h = rw is (record { each = each })
 
     each : (z : Cells) → times row_cmp z (removed row_cmp row old.rows) ≡ times row_cmp z (reaching old.column others)
     each z = omega (arith, before z, times-with_losses z old.rows gone fit)
-
-pub taken_narrow : (g : RowsBy) (row : Cells) (others : List Cells) → length row ≤ g.column → IsOf g (row ∷ others) → IsOf g others
-taken_narrow g row others short h =
-    let e : IsAlike row_cmp g.rows (cond (nat_lt g.column (length row)) (row ∷ reaching g.column others) (reaching g.column others)) = h in
-    rw (lt_false g.column (length row) short) at e
 
 -- ---- the order of the rows decides nothing
 pub of_swapped : (g : RowsBy) (a b : Cells) (others : List Cells) → IsOf g (a ∷ b ∷ others) → IsOf g (b ∷ a ∷ others)

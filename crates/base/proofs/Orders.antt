@@ -45,9 +45,6 @@ module _ {X : Type 0} (cmp : X → X → Ordering) where
   pub permuted_alike : (xs ys : List X) → IsPermutation xs ys → IsAlike cmp xs ys
   permuted_alike xs ys h = record { each = λ z. times_sum z xs ∙ (sym (sum_by-IsPermutation (one cmp z) xs ys h) ∙ sym (times_sum z ys)) }
 
-  pub alike_trans : (xs ys zs : List X) → IsAlike cmp xs ys → IsAlike cmp ys zs → IsAlike cmp xs zs
-  alike_trans xs ys zs h k = record { each = λ z. h.each z ∙ k.each z }
-
   pub alike_sym : (xs ys : List X) → IsAlike cmp xs ys → IsAlike cmp ys xs
   alike_sym xs ys h = record { each = λ z. sym (h.each z) }
 

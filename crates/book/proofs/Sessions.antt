@@ -1,5 +1,5 @@
 -- What a session may answer, and what it knows then.
-use Rattle.std.proofs.Common.{◌≡◌, ◌≢◌, ℕ, ◌+◌, ◌<◌, ◌≤◌, ◌==◌, Bool, true, false, ◌&&◌, List, [], ◌∷◌, ◌++◌, length, slice_index_or, slice_set, refl, ap, sym, ◌∙◌, subst, arith, append_assoc, append-nil, flat_map, get_or-set_same, get_or-set_other, length-set, ◌⊎◌, inl, inr}
+use Rattle.std.proofs.Common.{◌≡◌, ◌≢◌, ℕ, ◌+◌, ◌<◌, ◌≤◌, ◌==◌, true, false, List, [], ◌∷◌, ◌++◌, length, slice_index_or, slice_set, refl, ap, sym, ◌∙◌, subst, arith, append_assoc, append-nil, flat_map, get_or-set_same, get_or-set_other, length-set, ◌⊎◌, inl, inr}
 use Rattle.std.proofs.lemmas.List.Concat.{flat_map-append}
 use Rattle.std.proofs.lemmas.Bool.Decides.{nat_tests, eqb_tells}
 use mathlib.Core.List.{IsPrefix}
@@ -110,10 +110,6 @@ floor_more p s v j h w i a = ap (last_or []) (part_more p (own_word p s) (floor_
 
 self : (b : ℕ) → (b == b) ≡ true
 self b = grind (arith, nat_tests)
-
-and_no : (b : Bool) → (b && false) ≡ false
-and_no true = refl
-and_no false = refl
 
 -- the floors after a read, by cases on the place
 read_floor : (p : Layout) (s k v i : ℕ) (key : Datum) (rows : List Cells) (cut : Lengths) (floors : Floors) (h w : List Item) → IsTable p floors → k < length p.views → shard key (view_at p k).shards < (view_at p k).shards

@@ -11,7 +11,7 @@ use Rattle.model.specs.Histories.{Item}
 use Rattle.model.specs.Places.{base_count}
 use Rattle.book.specs.Words.{word_of, count_at}
 use Rattle.model.specs.Legal.{Allows}
-use Rattle.book.specs.Pages.{Page, opens, adds, item_in, history_of, IsLogOf, IsKeptBy, IsKept, Looks, IsTry, Tries, IsAsk, IsDone}
+use Rattle.book.specs.Pages.{Page, opens, adds, item_in, history_of, IsLogOf, IsKeptBy, IsKept, IsTry, Tries, IsAsk, IsDone}
 use Rattle.book.proofs.Parts.{count_append}
 use Rattle.book.proofs.Later.{allows_later}
 use Rattle.model.proofs.Growth.{legal_more}
@@ -150,11 +150,6 @@ try_moves p n v i k old a may own range seen cs log kept pre away =
       ap (λ x. x.1) is,
       subst (GoesAt v k (λ c. either (c == old) (old + 1) c) (Tries (step k old (old + 1) (adds i)) (v, (no_nib, None))) cs log) (sym is) (try_goes p n v log i k old cs a may own seen by pre lt (count_at p k (history_of log) == old) refl),
     )
-
-look_goes : (p : Layout) (n : ℕ) (v log : List Page) (k : ℕ) (i : Page) (cs : List Cell) → IsLogOf p n v → IsKeptBy p n cs log → IsPrefix v log → k < length cs
-    → GoesAt v k (λ c. c) (Looks (step k 0 0 i) (v, (no_nib, None))) cs log (count_at p k (history_of log), true)
-look_goes p n v log k i cs a kept pre lt =
-    goes_still p n v log k (λ c. c) (Looks (step k 0 0 i) (v, (no_nib, None))) cs kept lt refl (λ q m b. (log_still p q n m v log kept.of b pre, told_still p q n m v log k kept.of b pre))
 
 -- ---- what holds of a result
 pub any_err : {A E P : Type 0} (r : Result A E) → P → OnErr r P

@@ -1,10 +1,10 @@
 -- Cuts and floors: one line for all stage shards, and one length set.
 use Rattle.std.proofs.Common.{◌≡◌, ℕ, zero, suc, ◌<◌, ◌≤◌, List, [], ◌∷◌, length, take, map, replicate, slice_index_or, refl, ap, ◌∙◌, arith, ◌≢◌, ◌==◌, true, false, slice_set, get_or-set_same, get_or-set_other, length-set, ◌⊎◌, inl, inr}
-use Rattle.plan.specs.Layouts.{ViewLayout, Layout, no_view, view_at}
-use Rattle.model.specs.Histories.{Item, Lengths, len_at, floor_at, log_of}
+use Rattle.plan.specs.Layouts.{ViewLayout, Layout}
+use Rattle.model.specs.Histories.{Item, Lengths, len_at, log_of}
 use Rattle.model.specs.Places.{sources, source_at}
 use Rattle.model.specs.Cuts.{IsWithin, line_of, fronts_of}
-use Rattle.model.specs.Tables.{even_floors, with_length, with_front}
+use Rattle.model.specs.Tables.{with_length, with_front}
 use Rattle.std.proofs.lemmas.Bool.Decides.{eqb_tells}
 
 -- ---- one line for all stage shards
@@ -17,11 +17,6 @@ pub same_in : {A : Type 0} (x d : A) (n j : ℕ) → j < n → slice_index_or (r
 same_in x d zero j lt = absurd (omega arith)
 same_in x d (suc n) zero lt = refl
 same_in x d (suc n) (suc j) lt = same_in x d n j (omega arith)
-
-pub even_at : (p : Layout) (line : List ℕ) (v j : ℕ) → v < length p.views → j < (view_at p v).shards → floor_at (even_floors p line) v j ≡ replicate p.stages line
-even_at p line v j lv lj =
-    let cut = replicate p.stages line in
-    ap (λ (r : List Lengths). slice_index_or r j []) (row_at (λ (w : ViewLayout). replicate w.shards cut) p.views v no_view lv) ∙ same_in cut [] ((view_at p v).shards) j lj
 
 line_set : (h : List Item) (bs ns : List ℕ) (j m : ℕ) → j < length bs → line_of h bs (slice_set ns j m) ≡ slice_set (line_of h bs ns) j (take m (log_of (slice_index_or bs j 0) h))
 line_set h [] ns j m lt = absurd (omega arith)

@@ -77,11 +77,6 @@ pub legal_more : (p : Layout) (n : ℕ) (past h : List Item) (i : Item) → IsLe
 legal_more p n past [] i legal a = (subst (λ (l : List Item). Allows p n l i) (append-nil past) a, tt)
 legal_more p n past (x ∷ h) i legal a = (legal.0, legal_more p n (past ++ x ∷ []) h i legal.1 (subst (λ (l : List Item). Allows p n l i) (sym (append_assoc past (x ∷ []) h)) a))
 
--- a beginning of a legal history is legal
-pub legal_before : (p : Layout) (n : ℕ) (past h r : List Item) → IsLegalAfter p n past (h ++ r) → IsLegalAfter p n past h
-legal_before p n past [] r legal = tt
-legal_before p n past (x ∷ h) r legal = (legal.0, legal_before p n (past ++ x ∷ []) h r legal.1)
-
 -- ---- logs of a longer history are longer
 pub log_grows : (b : ℕ) (h w : List Item) → IsPrefix h w → IsPrefix (log_of b h) (log_of b w)
 log_grows b h w p = (log_of b p.0, sym (ap (log_of b) (sym p.1) ∙ flat_map-append (entry_in b) h p.0))

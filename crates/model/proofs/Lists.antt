@@ -1,6 +1,6 @@
 -- Lists: what holds of each element, one more element, and a part of each.
 use Rattle.std.proofs.Common.{◌≡◌, ℕ, zero, suc, ◌+◌, ◌<◌, ◌≤◌, List, [], ◌∷◌, ◌++◌, map, length, take, drop, get_or, slice_get, Some, slice_index_or, slice_set, refl, ap, ◌∙◌, arith, subst, sym, ◌⊎◌, inl, inr}
-use Rattle.std.proofs.lemmas.List.{take_more, take_all, map-append, map-set, length-map}
+use Rattle.std.proofs.lemmas.List.{take_more, map-append, map-set, length-map}
 use Rattle.row.specs.Bags.{Each}
 
 pub each_push : {X : Type 0} (P : X → Type 0) (xs : List X) (y : X) → Each P xs → P y → Each P (xs ++ y ∷ [])
@@ -29,10 +29,6 @@ each_at P (x ∷ xs) (suc i) d h lt = each_at P xs i d h.1 (omega arith)
 -- of the next one too
 pub each_more : {X : Type 0} (P : X → Type 0) (xs : List X) (i : ℕ) (x : X) → i < length xs → x ≡ get_or xs i x → Each P (take i xs) → P x → Each P (take (i + 1) xs)
 each_more {X} P xs i x lt is h k = rw (take_more xs i x lt, ← is) (each_push P (take i xs) x h k)
-
--- of all of them
-pub each_whole : {X : Type 0} (P : X → Type 0) (xs : List X) (i : ℕ) → length xs ≤ i → Each P (take i xs) → Each P xs
-each_whole {X} P xs i le h = subst (λ (l : List X). Each P l) (take_all i xs le) h
 
 -- of the one at the place
 pub each_one : {X : Type 0} (P : X → Type 0) (xs : List X) (i : ℕ) (x : X) → i < length xs → x ≡ get_or xs i x → Each P xs → P x
@@ -77,6 +73,3 @@ module _ {X Y : Type 0} (f : X → Y) (P : Y → Type 0) where
   mapped_at [] i d lt h = absurd (omega arith)
   mapped_at (x ∷ xs) zero d lt h = h.0
   mapped_at (x ∷ xs) (suc i) d lt h = mapped_at xs i d (omega arith) h.1
-
-  pub mapped_whole : (xs : List X) (i : ℕ) → length xs ≤ i → Each P (map f (take i xs)) → Each P (map f xs)
-  mapped_whole xs i le h = subst (λ (l : List X). Each P (map f l)) (take_all i xs le) h

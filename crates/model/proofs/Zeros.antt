@@ -1,9 +1,7 @@
 -- Floors that are all zeros.
-use Rattle.std.proofs.Common.{◌≡◌, ℕ, zero, suc, ◌<◌, List, [], ◌∷◌, length, map, replicate, slice_index_or, refl, ap, ◌∙◌, arith}
-use Rattle.std.proofs.lemmas.List.{length-map, length-replicate}
-use Rattle.plan.specs.Layouts.{ViewLayout, Layout, no_view, view_at}
+use Rattle.std.proofs.Common.{◌≡◌, ℕ, zero, suc, ◌<◌, List, [], ◌∷◌, length, map, replicate, slice_index_or, refl, arith}
+use Rattle.plan.specs.Layouts.{ViewLayout, Layout}
 use Rattle.model.specs.Histories.{Lengths, Floors, floor_at}
-use Rattle.model.specs.Tables.{IsTable}
 
 abbrev pub zero_rows : List ViewLayout → Floors
 zero_rows vs = map (λ w. replicate w.shards []) vs
@@ -22,12 +20,6 @@ zeros_at : (vs : List ViewLayout) (v j : ℕ) → floor_at (zero_rows vs) v j �
 zeros_at [] v j = refl
 zeros_at (w ∷ vs) zero j = let d : Lengths = [] in same_at d w.shards j
 zeros_at (w ∷ vs) (suc v) j = zeros_at vs v j
-
-pub zero_table : (p : Layout) (floors : Floors) → floors ≡ zero_rows p.views → IsTable p floors
-zero_table p floors is = rw is (record {
-  views = length-map p.views _;
-  shards = λ v lt. ap length (row_at p.views v no_view lt) ∙ length-replicate ((view_at p v).shards) [];
-})
 
 pub zero_floors : (p : Layout) (floors : Floors) → floors ≡ zero_rows p.views → (v j : ℕ) → floor_at floors v j ≡ []
 zero_floors p floors is v j = rw is (zeros_at p.views v j)

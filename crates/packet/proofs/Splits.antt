@@ -1,5 +1,5 @@
 -- One more record for its part.
-use Rattle.std.proofs.Common.{◌≡◌, ◌≢◌, ℕ, zero, suc, ◌+◌, ◌<◌, ◌==◌, Bool, true, false, cond, List, [], ◌∷◌, ◌++◌, map, length, replicate, Some, None, get_or, slice_get, slice_set, refl, ap, sym, ◌∙◌, arith}
+use Rattle.std.proofs.Common.{◌≡◌, ◌≢◌, ℕ, zero, suc, ◌+◌, ◌<◌, ◌==◌, Bool, true, false, cond, List, [], ◌∷◌, ◌++◌, map, length, replicate, Some, get_or, slice_get, slice_set, refl, ap, sym, ◌∙◌, arith}
 use Rattle.std.specs.List.{range_with_len}
 use Rattle.std.proofs.lemmas.List.{append-nil, get_or-map}
 use Rattle.std.proofs.lemmas.List.Elements.{filter-append}
@@ -60,16 +60,3 @@ pub part_is : {V : Type 0} (items : V → List Record) (old : List V) (column n 
 part_is items old column n part rs was lt is before =
     sym (get_or-map items old part was (items was) lt) ∙ ap (λ l. get_or l part (items was)) before
     ∙ get_or-map-range_with_len (λ j. records_for column n j rs) 0 n part part (items was) (omega (arith, lt, is)) (omega arith)
-
-none_more : (column n i : ℕ) (rs : List Record) (r : Record) → slice_get r.row column ≡ None → records_for column n i (rs ++ r ∷ []) ≡ records_for column n i rs
-none_more column n i rs r at =
-    let e : has_shard column n i r.row ≡ false = ap (passes (λ x. shard x n == i)) at in
-    filter-append (λ (x : Record). has_shard column n i x.row) rs (r ∷ []) ∙ ap (λ c. records_for column n i rs ++ cond c (r ∷ []) []) e ∙ append-nil (records_for column n i rs)
-
-all_same : {X : Type 0} (f g : ℕ → X) (xs : List ℕ) → ((i : ℕ) → f i ≡ g i) → map f xs ≡ map g xs
-all_same f g [] h = refl
-all_same f g (x ∷ xs) h = rw (h x, all_same f g xs h) refl
-
--- a record of no part
-pub put_nowhere : (column n : ℕ) (rs : List Record) (r : Record) → slice_get r.row column ≡ None → parts_by column n rs ≡ parts_by column n (rs ++ r ∷ [])
-put_nowhere column n rs r at = all_same (λ j. records_for column n j rs) (λ j. records_for column n j (rs ++ r ∷ [])) (range_with_len 0 n) (λ i. sym (none_more column n i rs r at))

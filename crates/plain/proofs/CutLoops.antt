@@ -3,34 +3,22 @@ use Rattle.std.proofs.Common.{◌≡◌, ℕ, zero, suc, ◌+◌, ◌<◌, ◌�
 use Rattle.std.proofs.lemmas.List.{take_more}
 use Rattle.row.specs.Bags.{Each}
 use Rattle.plan.specs.Layouts.{Layout}
-use Rattle.model.specs.Places.{sources, source_at}
+use Rattle.model.specs.Places.{sources}
 use Rattle.model.specs.Logs.{Change}
 use Rattle.model.specs.Queries.{Line}
 use Rattle.model.specs.Histories.{Item, Lengths, len_at, log_of}
-use Rattle.model.specs.Cuts.{IsAtMost, line_of, fronts_of, IsWithin}
+use Rattle.model.specs.Cuts.{line_of, fronts_of, IsWithin}
 use Rattle.plain.specs.Tells.{IsLineWithin}
-use Rattle.model.proofs.Lists.{each_at, each_of, past_end, any_end, below_or_not}
+use Rattle.model.proofs.Lists.{each_of, past_end, any_end, below_or_not}
 
 -- ---- a property of each length, with 0 past the end
 pub every_length : (line : List ℕ) (f : ℕ → ℕ) → ((j : ℕ) → j < length line → get_or line j 0 ≤ f j) → (j : ℕ) → get_or line j 0 ≤ f j
 every_length line f h j = elim (below_or_not j (length line)) as (λ _. get_or line j 0 ≤ f j) [ inl lt ↦ h j lt | inr le ↦ omega (arith, past_end line j 0 le) ]
 
-pub within_lines : (p : Layout) (h : List Item) (cut : Lengths) → length cut ≡ p.stages → Each (IsLineWithin p h) cut → IsWithin p h cut
-within_lines p h cut e each = record {
-  stages = e;
-  lines = λ s lt. (each_at (IsLineWithin p h) cut s [] each (omega arith)).width;
-  lengths = λ s j. elim (below_or_not s (length cut)) as (λ _. len_at cut s j ≤ length (log_of (source_at p j) h)) [
-    | inl lt ↦ (each_at (IsLineWithin p h) cut s [] each lt).lengths j
-    | inr le ↦ omega (arith, ap (λ (l : List ℕ). get_or l j 0) (past_end cut s [] le))
-  ];
-}
-
 pub lines_within : (p : Layout) (h : List Item) (cut : Lengths) → IsWithin p h cut → Each (IsLineWithin p h) cut
 lines_within p h cut w = each_of (IsLineWithin p h) [] cut (λ s lt. record { width = w.lines s (let e = w.stages in omega arith); lengths = λ j. w.lengths s j })
 
 -- ---- one cut and another
-pub at_most_lines : (c d : Lengths) → ((s : ℕ) → s < length c → (j : ℕ) → len_at c s j ≤ len_at d s j) → IsAtMost c d
-at_most_lines c d h s j = elim (below_or_not s (length c)) as (λ _. len_at c s j ≤ len_at d s j) [ inl lt ↦ h s lt j | inr le ↦ omega (arith, ap (λ (l : List ℕ). get_or l j 0) (past_end c s [] le)) ]
 
 pub line_len : (c : Lengths) (s : ℕ) (line : List ℕ) → s < length c → line ≡ get_or c s line → (j : ℕ) → len_at c s j ≡ get_or line j 0
 line_len c s line lt is j = ap (λ (l : List ℕ). get_or l j 0) (any_end c s [] line lt ∙ sym is)

@@ -1,5 +1,5 @@
 -- Logs along a list of items.
-use Rattle.std.proofs.Common.{◌≡◌, ℕ, ◌+◌, ◌<◌, List, [], ◌∷◌, ◌++◌, flat_map, length, take, get_or, refl, sym, ◌∙◌, ap, length-append, append-nil}
+use Rattle.std.proofs.Common.{◌≡◌, ℕ, ◌+◌, ◌<◌, List, [], ◌∷◌, ◌++◌, flat_map, length, take, get_or, refl, sym, ◌∙◌, append-nil}
 use Rattle.std.proofs.lemmas.List.{take_more, map-append}
 use Rattle.std.proofs.lemmas.List.Concat.{flat_map-append}
 use Rattle.std.proofs.lemmas.List.Folds.{flat_map-map}
@@ -20,12 +20,6 @@ pub authors_more : (b : ℕ) (items : List Item) (i : ℕ) (x : Item) (out es : 
     → out ≡ authors_of b (history_of (take i items)) → out ++ es ≡ authors_of b (history_of (take (i + 1) items))
 authors_more b items i x out es lt is own before =
     flat_more (λ y. author_in b (item_of y)) items i x out es lt is own (before ∙ flat_map-map (author_in b) item_of (take i items)) ∙ sym (flat_map-map (author_in b) item_of (take (i + 1) items))
-
-pub length_more : (b : ℕ) (items : List Item) (i : ℕ) (x : Item) → i < length items → x ≡ get_or items i x
-    → length (log_of b (history_of (take i items))) + length (entry_in b (item_of x)) ≡ length (log_of b (history_of (take (i + 1) items)))
-length_more b items i x lt is =
-    let xs = log_of b (history_of (take i items)) in
-    sym (length-append xs (entry_in b (item_of x))) ∙ ap length (log_more b items i x xs (entry_in b (item_of x)) lt is refl refl)
 
 last_append : {A : Type 0} (d : A) (xs ys : List A) → last_or d (xs ++ ys) ≡ last_or (last_or d xs) ys
 last_append d [] ys = refl

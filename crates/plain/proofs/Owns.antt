@@ -38,7 +38,3 @@ own_tells p h s x authors a t src are lt is who = step (t == s) refl
 -- past the log's end there is none
 pub not_own : (p : Layout) (h : List Item) (s : ℕ) (x : Place) (authors : List Author) → authors ≡ authors_of x.base h → length authors ≤ x.index → IsOwn p h s x → ⊥
 not_own p h s x authors are le own = let lt = get_within (authors_of x.base h) x.index _ own.wrote in absurd (omega (arith, ap length are))
-
--- nor where the place is in no source
-pub not_source : (p : Layout) (h : List Item) (s : ℕ) (x : Place) → (IsSource p x.base → ⊥) → IsOwn p h s x → ⊥
-not_source p h s x none own = none (record { source = own.source; there = own.there; is = own.base })

@@ -1,10 +1,10 @@
 -- The first item that is not allowed, and legal histories with one more item.
-use Rattle.std.proofs.Common.{◌≡◌, ℕ, zero, suc, ◌+◌, ◌<◌, ◌≤◌, Bool, true, false, List, [], ◌∷◌, ◌++◌, take, length, get_or, slice_get, Some, refl, arith, sym, subst, append_assoc, append-nil}
+use Rattle.std.proofs.Common.{◌≡◌, ℕ, zero, suc, ◌+◌, ◌<◌, Bool, true, false, List, [], ◌∷◌, ◌++◌, take, length, get_or, slice_get, Some, refl, arith, sym, subst, append_assoc, append-nil}
 use Rattle.std.specs.Bool.{Decides}
 use Rattle.std.specs.declared.cmp.Ordering.{Ordering}
 use Rattle.std.specs.declared.cmp.Ordering.TheVariants.{Less, Equal, Greater}
 use Rattle.std.specs.Ordering.{eq_by_cmp, is_eq}
-use Rattle.std.proofs.lemmas.List.{take_more, take_all, take-map, map-append}
+use Rattle.std.proofs.lemmas.List.{take_more, take-map, map-append}
 use Rattle.row.specs.Cells.{Cells, row_cmp}
 use Rattle.row.specs.CellOrder.{row_same, row_equivalence}
 use Rattle.plan.specs.Layouts.{Layout}
@@ -34,9 +34,6 @@ pub legal_push : (p : Layout) (n : ℕ) (items : List Item) (i : ℕ) (x : Item)
     → IsLegal p n (history_of (take (i + 1) items))
 legal_push p n items i x lt is legal a =
     rw (take_more items i x lt, ← is, map-append item_of (take i items) (x ∷ [])) (legal_more p n [] (history_of (take i items)) (item_of x) legal a)
-
-pub legal_all : (p : Layout) (n : ℕ) (items : List Item) (i : ℕ) → length items ≤ i → IsLegal p n (history_of (take i items)) → IsLegal p n (history_of items)
-legal_all p n items i le legal = subst (λ (l : List Item). IsLegal p n (history_of l)) (take_all i items le) legal
 
 -- each item of a legal history is allowed by those before it
 allowed_at : (p : Layout) (n : ℕ) (past h : List HistoryItem) (i : ℕ) (x : HistoryItem) → IsLegalAfter p n past h → slice_get h i ≡ Some x → Allows p n (past ++ take i h) x

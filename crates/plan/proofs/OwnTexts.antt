@@ -29,10 +29,6 @@ each_join : {X : Type 0} (P : X → Type 0) (xs ys : List X) → Each P xs → E
 each_join P [] ys h k = k
 each_join P (x ∷ xs) ys h k = (h.0, each_join P xs ys h.1 k)
 
-range_each : {X : Type 0} (P : X → Type 0) (f : ℕ → X) (a k : ℕ) → ((n : ℕ) → n < a + k → P (f n)) → Each P (map f (range_with_len a k))
-range_each P f a zero h = tt
-range_each P f a (suc k) h = (h a (omega arith), range_each P f (a + 1) k (λ n lt. h n (omega arith)))
-
 flat_each : {X Y : Type 0} (P : X → Type 0) (Q : Y → Type 0) (f : X → List Y) → ((x : X) → P x → Each Q (f x)) → (xs : List X) → Each P xs → Each Q (flat_map f xs)
 flat_each P Q f h [] all = tt
 flat_each P Q f h (x ∷ xs) all = each_join Q (f x) (flat_map f xs) (h x all.0) (flat_each P Q f h xs all.1)

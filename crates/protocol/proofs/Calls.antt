@@ -413,9 +413,6 @@ module _ (w : World) (past : List Event) (h : List Item) (g : Good w past h) whe
     events = g.events;
   }
 
-  abbrev refuses_stop : Option DomainId → Did
-  refuses_stop d = record { world = w; reply = refused UnknownPlace }
-
   no_place : (d : DomainId) → is_there w.plan d ≡ false → Tells w past h (event.stop (Some d)) (record { world = w; reply = refused UnknownPlace })
   no_place d e = tells_nothing w past h (event.stop (Some d)) (λ se. refl) (λ b. ap (λ t. t && is_base w.plan b d) e) (record { world = w; reply = refused UnknownPlace }) (record { plan = refl; good = g }) refl
 

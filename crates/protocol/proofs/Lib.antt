@@ -11,7 +11,6 @@ pub mod Lists
 pub mod EdgeLaws
 pub mod Spots
 pub mod Runs
-pub mod Full
 pub mod Parts
 pub mod Moves
 pub mod Within

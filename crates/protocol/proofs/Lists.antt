@@ -129,13 +129,3 @@ module _ {X Y : Type 0} (R : X → Y → Type 0) where
   pair_none (v ∷ xs) [] i at h = absurd h
   pair_none (v ∷ xs) (w ∷ ys) zero at h = cc
   pair_none (v ∷ xs) (w ∷ ys) (suc i) at h = pair_none xs ys i at h.1
-
-  pub pair_of : (xs : List X) (ys : List Y) → length xs ≡ length ys → ((x : X) (y : Y) → R x y) → Pointwise R xs ys
-  pair_of [] [] e g = tt
-  pair_of [] (y ∷ ys) e g = cc
-  pair_of (x ∷ xs) [] e g = cc
-  pair_of (x ∷ xs) (y ∷ ys) e g = (g x y, pair_of xs ys (omega (arith, e)) g)
-
-  pub pair_replicate : (n : ℕ) (x : X) (y : Y) → R x y → Pointwise R (replicate n x) (replicate n y)
-  pair_replicate zero x y r = tt
-  pair_replicate (suc n) x y r = (r, pair_replicate n x y r)

@@ -1,5 +1,5 @@
 -- Counts of what is made of lists, and a sort by its counts.
-use Rattle.std.proofs.Common.{◌≡◌, zero, suc, ◌+◌, ◌<◌, ◌≤◌, Bool, true, false, cond, List, [], ◌∷◌, filter, flat_map, sum_by, IsPermutation, refl, ap, sym, ◌∙◌, arith, Ordering}
+use Rattle.std.proofs.Common.{◌≡◌, zero, suc, ◌+◌, false, List, [], ◌∷◌, sum_by, IsPermutation, refl, ap, sym, ◌∙◌, arith, Ordering}
 use Rattle.std.proofs.lemmas.List.Sums.{sum_by-cons}
 use Rattle.std.proofs.lemmas.List.Sorted.{sum_by-IsPermutation}
 use Rattle.std.specs.declared.cmp.Ordering.TheVariants.{Less, Equal, Greater}
@@ -7,7 +7,7 @@ use Rattle.std.specs.Ordering.{is_gt, is_lt, ordering_reverse}
 use Rattle.std.specs.List.Sorted.{IsSorted}
 use Rattle.std.specs.Cmp.{IsTotalOrder}
 use Rattle.row.specs.Bags.{one, times, sorted, removed, IsAscending}
-use Rattle.row.proofs.BagLemmas.{Each-weaker, one_itself, up_chain, times-sorted, times-append, times-removed, times-filter_kept, times-filter_dropped, IsAscending-sorted, one_list}
+use Rattle.row.proofs.BagLemmas.{Each-weaker, up_chain, times-sorted, IsAscending-sorted, one_list}
 
 -- the list without the elements of the other one, each as often as it is there
 abbrev pub without : {X : Type 0} → (X → X → Ordering) → List X → List X → List X
@@ -28,10 +28,6 @@ module _ {X : Type 0} (cmp : X → X → Ordering) where
   pub times-permuted : (z : X) (xs ys : List X) → IsPermutation xs ys → times cmp z xs ≡ times cmp z ys
   times-permuted z xs ys h = times_sum z xs ∙ (sym (sum_by-IsPermutation (one cmp z) xs ys h) ∙ sym (times_sum z ys))
 
-  -- what each element gives, in one list
-  pub times-flat_map : {Y : Type 0} (f : Y → List X) (z : X) (y : Y) (ys : List Y) → times cmp z (flat_map f (y ∷ ys)) ≡ times cmp z (f y) + times cmp z (flat_map f ys)
-  times-flat_map f z y ys = times-append cmp z (f y) (flat_map f ys)
-
   module _ (total : IsTotalOrder cmp) where
     sorted_more : (x y : X) (xs : List X) → is_gt (cmp x y) ≡ false → IsAscending cmp (y ∷ xs) → IsAscending cmp (x ∷ y ∷ xs)
     sorted_more x y xs h up = ((h, Each-weaker (λ z. is_gt (cmp y z) ≡ false) (λ z. is_gt (cmp x z) ≡ false) (λ z k. up_chain cmp total x y z h k) xs up.0), up)
@@ -45,24 +41,8 @@ module _ {X : Type 0} (cmp : X → X → Ordering) where
         (IsAscending-of_sorted (y ∷ xs) (λ k d low small. let e : suc k + 1 ≡ suc (k + 1) = omega arith in rw e at (h (suc k) d (omega arith) (omega arith))))
 
     module _ (same : (x y : X) → cmp x y ≡ Equal → x ≡ y) where
-      -- what passes
-      pub times-filter : (p : X → Bool) (z : X) (xs : List X) → times cmp z (filter p xs) ≡ cond (p z) (times cmp z xs) 0
-      times-filter p z xs = step (p z) refl
-        where
-          step : (b : Bool) → p z ≡ b → times cmp z (filter p xs) ≡ cond b (times cmp z xs) 0
-          step true e = times-filter_kept cmp total same p z xs e
-          step false e = times-filter_dropped cmp total same p z xs e
-
       -- what the sort of a list leaves is the list in order
       pub sort_is : (xs ys : List X) → IsPermutation xs ys → IsSorted cmp ys → ys ≡ sorted cmp xs
       sort_is xs ys moved up =
           one_list cmp total same ys (sorted cmp xs) (IsAscending-of_sorted ys up) (IsAscending-sorted cmp total xs)
           (λ z. sym (times-permuted z xs ys moved) ∙ sym (times-sorted cmp z xs))
-
-      -- a difference of bags, where what is taken away is there
-      pub times-without : (z : X) (xs ys : List X) → ((z : X) → times cmp z ys ≤ times cmp z xs) → times cmp z (without cmp xs ys) + times cmp z ys ≡ times cmp z xs
-      times-without z xs [] h = omega arith
-      times-without z xs (y ∷ ys) h =
-          let some : 0 < times cmp y xs = omega (arith, h y, one_itself cmp total y) in
-          let less : (w : X) → times cmp w ys ≤ times cmp w (removed cmp y xs) = λ w. omega (arith, h w, times-removed cmp total same w y xs some) in
-          omega (arith, times-without z (removed cmp y xs) ys less, times-removed cmp total same z y xs some)

@@ -1,26 +1,13 @@
 -- The rows that pass a test, after records.
-use Rattle.std.proofs.Common.{◌≡◌, ℕ, ◌+◌, ◌<◌, ◌≤◌, nat_lt, Bool, true, false, cond, List, [], ◌∷◌, length, filter, refl, ap, sym, ◌∙◌, arith, Ordering}
+use Rattle.std.proofs.Common.{◌≡◌, ℕ, ◌<◌, ◌≤◌, nat_lt, Bool, true, false, cond, List, [], ◌∷◌, filter, refl, ap, sym, ◌∙◌, arith, Ordering}
 use Rattle.std.specs.declared.cmp.Ordering.TheVariants.{Less, Equal, Greater}
 use Rattle.std.specs.Ordering.{is_eq, is_gt}
-use Rattle.row.specs.Cells.{Datum, Cells, row_cmp, has, cell_at}
+use Rattle.row.specs.Cells.{Cells, row_cmp}
 use Rattle.row.specs.CellOrder.{row_total, row_same}
 use Rattle.row.specs.Bags.{Each, one, times, inserted, removed, IsAscending}
-use Rattle.row.specs.BagChanges.{plus_applied, minus_applied, with_gains, with_losses, with_records}
-use Rattle.row.specs.Changes.{gains, losses, IsCovered}
-use Rattle.row.specs.Groups.{wide}
-use Rattle.row.specs.declared.record.Record.{Record}
-use Rattle.row.specs.declared.record.Sign.{Sign}
-use Rattle.row.specs.declared.record.Sign.TheVariants.{Plus, Minus}
 use Rattle.row.proofs.BagLemmas.{times-inserted, IsAscending-inserted, one_list, times-filter_kept, times-filter_dropped}
 use Rattle.std.proofs.lemmas.Bool.Decides.{nat_tests}
-use Rattle.row.proofs.BagChanges.{IsAscending-plus}
-use Rattle.row.proofs.Keys.{has_wide}
-use Rattle.row.proofs.RecordLaws.{apart_rows, true_false, false_true, gains-kept_true, losses-kept_true, losses-kept_false}
-use Rattle.row.proofs.Shards.{has_own}
-
-same_both : (b : Bool) (rows : List Cells) → rows ≡ cond b rows rows
-same_both true rows = refl
-same_both false rows = refl
+use Rattle.row.proofs.RecordLaws.{apart_rows, true_false, false_true}
 
 -- ---- elements of any kind that pass a test
 pub Each-filtered : {X : Type 0} (p : X → Bool) (xs : List X) → Each (λ x. p x ≡ true) (filter p xs)
@@ -134,80 +121,8 @@ module _ (p : Cells → Bool) where
       step Greater e false eb true ec h = rw ec (ap (λ t. y ∷ t) h)
       step Greater e false eb false ec h = rw ec h
 
-  filter-plus : (s : Sign) (row : Cells) (rows : List Cells) → IsAscending row_cmp rows → filter p (plus_applied s row rows) ≡ cond (p row) (plus_applied s row (filter p rows)) (filter p rows)
-  filter-plus Plus row rows up = filter-inserted row rows up
-  filter-plus Minus row rows up = same_both (p row) (filter p rows)
-
-  filter-minus : (s : Sign) (row : Cells) (rows : List Cells) → filter p (minus_applied s row rows) ≡ cond (p row) (minus_applied s row (filter p rows)) (filter p rows)
-  filter-minus Plus row rows = same_both (p row) (filter p rows)
-  filter-minus Minus row rows = filter-removed row rows
-
-  filter-with_gains : (rows : List Cells) (rs : List Record) → IsAscending row_cmp rows → filter p (with_gains rows rs) ≡ with_gains (filter p rows) (filter (λ (r : Record). p r.row) rs)
-  filter-with_gains rows [] up = refl
-  filter-with_gains rows (r ∷ rs) up =
-      filter-with_gains (plus_applied r.sign r.row rows) rs (IsAscending-plus r.sign r.row rows up)
-      ∙ (ap (λ l. with_gains l (filter (λ (r : Record). p r.row) rs)) (filter-plus r.sign r.row rows up) ∙ step (p r.row))
-    where
-      step : (b : Bool) → with_gains (cond b (plus_applied r.sign r.row (filter p rows)) (filter p rows)) (filter (λ (r : Record). p r.row) rs)
-          ≡ with_gains (filter p rows) (cond b (r ∷ filter (λ (r : Record). p r.row) rs) (filter (λ (r : Record). p r.row) rs))
-      step true = refl
-      step false = refl
-
-  filter-with_losses : (rows : List Cells) (rs : List Record) → filter p (with_losses rows rs) ≡ with_losses (filter p rows) (filter (λ (r : Record). p r.row) rs)
-  filter-with_losses rows [] = refl
-  filter-with_losses rows (r ∷ rs) =
-      filter-with_losses (minus_applied r.sign r.row rows) rs
-      ∙ (ap (λ l. with_losses l (filter (λ (r : Record). p r.row) rs)) (filter-minus r.sign r.row rows) ∙ step (p r.row))
-    where
-      step : (b : Bool) → with_losses (cond b (minus_applied r.sign r.row (filter p rows)) (filter p rows)) (filter (λ (r : Record). p r.row) rs)
-          ≡ with_losses (filter p rows) (cond b (r ∷ filter (λ (r : Record). p r.row) rs) (filter (λ (r : Record). p r.row) rs))
-      step true = refl
-      step false = refl
-
-  -- the rows that pass, after records, are those that passed, after the records of such rows
-  pub filter-with_records : (rows : List Cells) (rs : List Record) → IsAscending row_cmp rows → filter p (with_records rows rs) ≡ with_records (filter p rows) (filter (λ (r : Record). p r.row) rs)
-  filter-with_records rows rs up =
-      filter-with_losses (with_gains rows rs) rs ∙ ap (λ l. with_losses l (filter (λ (r : Record). p r.row) rs)) (filter-with_gains rows rs up)
-
 lt_of : (a b : ℕ) → nat_lt a b ≡ true → a < b
 lt_of a b h = grind (arith, nat_tests)
 
 le_of : (a b : ℕ) → nat_lt a b ≡ false → b ≤ a
 le_of a b h = grind (arith, nat_tests)
-
--- a record whose row has a value in the column is among those whose row has the column
-keyed_wide : (column : ℕ) (d : Datum) (rs : List Record) → filter (λ (r : Record). has column d r.row) (wide column rs) ≡ filter (λ (r : Record). has column d r.row) rs
-keyed_wide column d [] = refl
-keyed_wide column d (r ∷ rs) = step (nat_lt column (length r.row)) refl (has column d r.row) refl (keyed_wide column d rs)
-  where
-    step : (a : Bool) → nat_lt column (length r.row) ≡ a → (b : Bool) → has column d r.row ≡ b → filter (λ (r : Record). has column d r.row) (wide column rs) ≡ filter (λ (r : Record). has column d r.row) rs
-        → filter (λ (r : Record). has column d r.row) (cond a (r ∷ wide column rs) (wide column rs)) ≡ cond b (r ∷ filter (λ (r : Record). has column d r.row) rs) (filter (λ (r : Record). has column d r.row) rs)
-    step true e true f h = rw f (ap (λ t. r ∷ t) h)
-    step true e false f h = rw f h
-    step false e true f h = absurd (omega (arith, has_wide column d r.row f, le_of column (length r.row) e))
-    step false e false f h = h
-
--- the rows of a value, after those records whose row has the column
-pub filter-wide : (column : ℕ) (d : Datum) (rows : List Cells) (rs : List Record) → IsAscending row_cmp rows
-    → filter (has column d) (with_records rows (wide column rs)) ≡ with_records (filter (has column d) rows) (filter (λ (r : Record). has column d r.row) rs)
-filter-wide column d rows rs up = filter-with_records (has column d) rows (wide column rs) up ∙ ap (with_records (filter (has column d) rows)) (keyed_wide column d rs)
-
--- what is covered at each value is covered
-pub IsCovered-wide : (column : ℕ) (rows : List Cells) (rs : List Record) → ((d : Datum) → IsCovered (filter (has column d) rows) (filter (λ (r : Record). has column d r.row) rs)) → IsCovered rows (wide column rs)
-IsCovered-wide column rows rs h = record { enough = λ z. step z (nat_lt column (length z)) refl }
-  where
-    step : (z : Cells) (b : Bool) → nat_lt column (length z) ≡ b → losses z (wide column rs) ≤ times row_cmp z rows + gains z (wide column rs)
-    step z true e =
-        let d = cell_at z column in
-        let own = has_own z column (lt_of column (length z) e) in
-        let cover = h d in
-        omega (
-          arith,
-          cover.enough z,
-          times-filter_kept row_cmp row_total row_same (has column d) z rows own,
-          gains-kept_true (has column d) z rs own,
-          losses-kept_true (has column d) z rs own,
-          gains-kept_true (λ r. nat_lt column (length r)) z rs e,
-          losses-kept_true (λ r. nat_lt column (length r)) z rs e,
-        )
-    step z false e = omega (arith, losses-kept_false (λ r. nat_lt column (length r)) z rs e)

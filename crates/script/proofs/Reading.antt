@@ -84,9 +84,6 @@ module _ {A : Type 0} (Asks : List (List ℕ) → A → Type 0) where
     pub counted : taken ≡ length front
     pub read : IsScript Asks 1 front calls
 
-  pub read_none : (lines : List (List ℕ)) → ReadUpTo lines lines 0 []
-  read_none lines = record { front = []; split = refl; counted = refl; read = refl }
-
   pub read_more : (lines rest more : List (List ℕ)) (line : List ℕ) (taken next : ℕ) (calls after : List (Numbered A)) (said : Option A) → ReadUpTo lines rest taken calls → rest ≡ line ∷ more → Says Asks line said → next ≡ taken + 1 → after ≡ calls ++ call_at (taken + 1) said → ReadUpTo lines more next after
   read_more lines rest more line taken next calls after said r cut says step same =
       let counted = r.counted in

@@ -116,9 +116,6 @@ looked_unanswered p old mid new e x (inr r) = inr (r.0, looked_again p old mid n
 pub within : (p : Layout) (xs : List Code) (shown : List Snapshot) (n : ℕ) → map reader_in xs ≡ readers p → map reader_of shown ≡ readers p → n < length xs → n < length shown
 within p xs shown n a b lt = omega (arith, lt, length-map xs reader_in, length-map shown reader_of, ap length a, ap length b)
 
-pub within_all : (p : Layout) (xs : List Code) (n : ℕ) → map reader_in xs ≡ readers p → n < length xs → n < length (readers p)
-within_all p xs n a lt = omega (arith, lt, length-map xs reader_in, ap length a)
-
 pub busy : (c : Caller) (e : Refused) → e ≡ Busy → IsUnanswered c c e
 busy c e b = inr (inr b, same_looked c)
 

@@ -1,5 +1,5 @@
 -- What goes to each receiver, one after the other.
-use Rattle.std.proofs.Common.{◌≡◌, ℕ, suc, ◌+◌, ◌<◌, ◌≤◌, List, [], ◌∷◌, ◌++◌, map, length, slice_index_or, slice_set, refl, ap, sym, ◌∙◌, arith, append_assoc, length-append}
+use Rattle.std.proofs.Common.{◌≡◌, ℕ, ◌+◌, ◌<◌, ◌≤◌, List, [], ◌∷◌, ◌++◌, map, length, slice_index_or, slice_set, refl, ap, sym, ◌∙◌, arith, append_assoc, length-append}
 use Rattle.std.proofs.lemmas.List.{append-nil, length-map, map-append}
 use Rattle.packet.specs.Outboxes.{EdgeView, packets_on}
 use Rattle.protocol.specs.StageSteps.{append_each}
@@ -23,12 +23,6 @@ module _ {X : Type 0} where
   append_assoc_each (xs ∷ xss) [] zss = refl
   append_assoc_each (xs ∷ xss) (ys ∷ yss) [] = refl
   append_assoc_each (xs ∷ xss) (ys ∷ yss) (zs ∷ zss) = λ i. append_assoc xs ys zs i ∷ append_assoc_each xss yss zss i
-
-  pub append_length : (xss yss : List (List X)) → length yss ≤ length xss → length (append_each xss yss) ≡ length xss
-  append_length [] [] le = refl
-  append_length [] (ys ∷ yss) le = absurd (omega (arith, le))
-  append_length (xs ∷ xss) [] le = refl
-  append_length (xs ∷ xss) (ys ∷ yss) le = ap suc (append_length xss yss (omega (arith, le)))
 
   -- nothing to each
   pub append_nothing : {A : Type 0} (xss : List (List X)) (as_ : List A) → length as_ ≤ length xss → append_each xss (map (λ a. []) as_) ≡ xss

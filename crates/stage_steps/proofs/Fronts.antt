@@ -17,7 +17,7 @@ use Rattle.plan.specs.Outputs.{pass}
 use Rattle.plan.proofs.Both.{and_left, and_right, and_both}
 use Rattle.model.specs.Logs.{Change, fits, rows_of}
 use Rattle.model.specs.Places.{sources, source_at, side_bases, side_count, right_bases, base_at, table_of, layout_of}
-use Rattle.model.specs.Queries.{Line, stage_rows, side_share, side_rows, left, right_rows, right}
+use Rattle.model.specs.Queries.{Line, stage_rows, side_share, side_rows, left, right}
 use Rattle.model.proofs.PlaceLaws.{base_table}
 use Rattle.model.proofs.RowFits.{all_filter, rows_fit}
 use Rattle.packet.specs.Readers.{is_left, side_in, side_of, right_side}
@@ -151,9 +151,6 @@ module _ (p : Layout) (s : ℕ) (line : Line) (from to : List Change) (changes :
         subst (λ fs. Turns (left p s line) (kept_by p p.left changes) (flat_map (side_share p s p.left) fs)) (sym (take_set n j line to))
         (front_turns (side_share p s p.left) (take n line) j from to (kept_by p p.left changes) (take_get n j line lt ∙ at)
         (of_side p.left (source_at p j) left_table left_side (front_at p (sources p) line j from is at) goes turns))
-
-    right_still : right p s (slice_set line j to) ≡ right p s line
-    right_still = ap (right_rows p s p.right) (drop_still (side_count p p.left) j line to lt)
 
   module _ (side : SideLayout) (there : p.right ≡ Some side) (i : ℕ) (lt : i < side_count p side) (at : slice_get line (side_count p p.left + i) ≡ Some from) (goes : IsFrontOf p (source_at p (side_count p p.left + i)) to)
       (turns : Turns (sent_rows p (source_at p (side_count p p.left + i)) s from) changes (sent_rows p (source_at p (side_count p p.left + i)) s to)) where

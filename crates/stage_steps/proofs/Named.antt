@@ -7,11 +7,10 @@ use Rattle.std.specs.Str.{IsAscii}
 use Rattle.std.proofs.lemmas.Str.{IsUtf8-from_ascii}
 use Rattle.std.proofs.lemmas.Bool.Decides.{nat_tests}
 use denote.RawPtr.Ptr.{null_ptr}
-use Rattle.row.specs.Cells.{Cells, Datum, int, text, cell_at}
+use Rattle.row.specs.Cells.{Datum, int, text}
 use Rattle.row.specs.declared.value.Value.TheVariants as code
 use Rattle.plan.proofs.Both.{and_left, and_right}
-use Rattle.plan.specs.Kinds.{is_cell, is_plain, is_printed, is_row}
-use Rattle.plan.specs.Layouts.{ColumnLayout}
+use Rattle.plan.specs.Kinds.{is_cell, is_plain, is_printed}
 use Rattle.plan.specs.declared.kinds.Kind.{Kind}
 use Rattle.plan.specs.declared.kinds.Kind.TheVariants as kind
 use Rattle.stage_sides.specs.Sides.{IsNamed}
@@ -37,10 +36,3 @@ module _ (alloc : Global) where
         value = code.Text (record { bytes = record { ptr = null_ptr; len = length bytes; cap = length bytes; alloc = alloc; items = bytes; ok = (refl, omega arith); small = let s = plain_short bytes h in omega (arith, s) }; ok = ∣ u ∣₁ });
         is = refl;
       }
-
-  -- the cell of a row of the table
-  pub row_named : (cs : List ColumnLayout) (row : Cells) (c : ℕ) → is_row cs row ≡ true → c < length cs → IsNamed (cell_at row c)
-  row_named [] row c h lt = absurd (omega arith)
-  row_named (k ∷ cs) [] c h lt = absurd cc
-  row_named (k ∷ cs) (v ∷ row) zero h lt = cell_named k.kind v (and_left (is_cell k.kind v) (is_row cs row) h)
-  row_named (k ∷ cs) (v ∷ row) (suc c) h lt = row_named cs row c (and_right (is_cell k.kind v) (is_row cs row) h) (omega (arith, lt))

@@ -1,12 +1,6 @@
 -- A list that is worked off from its beginning.
-use Rattle.std.proofs.Common.{◌≡◌, ℕ, ◌+◌, ◌<◌, List, [], length, drop, get_or, slice_get, Some, refl, ap, sym, ◌∙◌, add-zero}
+use Rattle.std.proofs.Common.{◌≡◌, ℕ, ◌+◌, ◌<◌, List, length, drop, get_or, ap, sym, ◌∙◌, add-zero}
 use Rattle.std.proofs.lemmas.List.{drop_more, get_or-drop}
-use Rattle.std.proofs.lemmas.Option.{slice_get_read}
-
--- the first of what is left is the next of all
-pub next_get : {A : Type 0} (xs rest : List A) (i : ℕ) (x : A) → rest ≡ drop i xs → i < length xs → x ≡ get_or rest 0 x → slice_get xs i ≡ Some x
-next_get xs rest i x is lt at =
-    slice_get_read xs (length xs) i x refl lt (at ∙ (ap (λ l. get_or l 0 x) is ∙ (get_or-drop i xs 0 x ∙ ap (λ n. get_or xs n x) (add-zero i))))
 
 pub next_is : {A : Type 0} (xs rest : List A) (i : ℕ) (x : A) → rest ≡ drop i xs → x ≡ get_or rest 0 x → get_or xs i x ≡ x
 next_is xs rest i x is at = sym (at ∙ (ap (λ l. get_or l 0 x) is ∙ (get_or-drop i xs 0 x ∙ ap (λ n. get_or xs n x) (add-zero i))))

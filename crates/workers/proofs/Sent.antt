@@ -1,7 +1,6 @@
 -- Edges that are emptied one after the other.
 use Rattle.std.proofs.Common.{◌≡◌, ℕ, zero, suc, ◌+◌, ◌<◌, ◌≤◌, List, [], ◌∷◌, length, slice_index_or, slice_set, refl, ap, sym, ◌∙◌, subst, arith}
 use borrow.Author.Count.{below_more}
-use Rattle.std.proofs.lemmas.List.{length-map}
 use Rattle.packet.specs.Messages.{none_of}
 use Rattle.packet.specs.Outboxes.{EdgeView, packets_on}
 use Rattle.packet.proofs.Sends.{none_left}
@@ -29,11 +28,6 @@ module _ {X : Type 0} where
   one_taken old now i before put = subst (λ xss. AreEmpty xss 0 (i + 1)) (sym put) (record {
     each = below_more (λ k. 0 ≤ k → length (slice_index_or (slice_set old i []) k []) ≡ 0) i (λ k lt le. ap length (set_other old i k lt) ∙ before.each k lt le) (λ le. ap length (set_none old i));
   })
-
-  -- there are as many edges
-  pub taken_count : (old now : List (EdgeView X)) (i : ℕ) → packets_on now ≡ slice_set (packets_on old) i [] → length now ≡ length old
-  taken_count old now i put =
-      sym (length-map now (λ (e : EdgeView X). e.packets)) ∙ (ap length put ∙ (set_size (packets_on old) i ∙ length-map old (λ (e : EdgeView X). e.packets)))
 
   -- none has anything
   pub emptied : (edges : List (EdgeView X)) (n : ℕ) → AreEmpty (packets_on edges) 0 n → length edges ≤ n → packets_on edges ≡ none_of edges

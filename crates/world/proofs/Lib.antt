@@ -6,6 +6,5 @@ mod Looking
 mod Counting
 mod Wanting
 mod Writing
-mod Listing
 mod Replaying
 mod Stopping
