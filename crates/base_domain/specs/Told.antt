@@ -1,4 +1,4 @@
--- The packets of an entry, from the records of each stage shard.
+-- The packets of an entry, from the records of each stage shard. No public clause cites this.
 use Rattle.std.specs.Prelude.{◌≡◌, ℕ, List, [], ◌∷◌, ◌++◌, map, slice_index_or, Option, Some, None}
 use Rattle.std.specs.List.{range_with_len}
 use Rattle.std.specs.Option.{option_map}

@@ -116,7 +116,8 @@ pub struct Rights<J: Naming> {
 }
 
 impl Opened {
-    /// A book of this plan for so many sessions, at most 16. Errors: memory only.
+    /// A book of this plan for so many sessions, at most 16. Errors: memory only. Cost: linear in
+    /// the base shards, the sessions and the shards of all views.
     pub fn new(alloc: Global, plan: &Plan, sessions: usize) -> Result<Opened, AllocError>
         requires few { sessions < 17 }
         ensures { IfOk result (λ o. (o.plan ≡ plan.now) × (o.sessions ≡ sessions)) }

@@ -60,7 +60,8 @@ impl<J: Naming> Model for Cuts<J> {
 }
 
 impl<J: Naming> Cuts<J> {
-    /// For each shard of each view the cut of no entries. Errors: memory only.
+    /// For each shard of each view the cut of no entries. Errors: memory only. Cost: linear in the
+    /// shards of all views.
     pub fn zeros(alloc: Global, plan: &Plan, part: &Part<J>) -> Result<Cuts<J>, AllocError>
         requires plan { plan.now ≡ J.plan }
         ensures floors { IfOk result (λ c. c.floors
@@ -120,6 +121,7 @@ impl<J: Naming> Cut<J> {
     }
 
     /// The cut at which each stage shard has the empty front of each source. Errors: memory only.
+    /// Cost: linear in the stage shards and the sources.
     pub fn zeros(alloc: Global, plan: &Plan, part: &Part<J>) -> Result<Cut<J>, AllocError>
         requires plan { plan.now ≡ J.plan }
         ensures lengths { IfOk result (λ c. c.lengths

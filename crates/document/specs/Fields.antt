@@ -1,6 +1,6 @@
--- No public clause cites this. A document read field by field, as the private functions of the crate
--- read it: what it says, or the number of the first fault. The lemma `plan_is` shows that the checks
--- in their order say the same.
+-- A document read field by field, as the functions of the crate read it: what it says, or the number
+-- of the first fault. Of public clauses only that of `draft_at` cites this; the lemma `plan_is` of
+-- `recipe` shows that the checks in their order say the same.
 use Rattle.std.specs.Prelude.{ℕ, ℤ, Bool, true, false, List, [], ◌∷◌, codes, Option, Some, None, Result, Ok, Err}
 use Rattle.std.specs.List.{before_first, after_first}
 use Rattle.row.specs.Cells.{Datum, int, text}

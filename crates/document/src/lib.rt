@@ -1,4 +1,5 @@
-//! A recipe as it is written: from a TOML value to the draft of a plan, and why a recipe is refused.
+//! A recipe as it is written: from a TOML value to the draft of a plan, and why a recipe is
+//! refused.
 #![tactic(auto)]
 
 pub mod error;

@@ -219,8 +219,9 @@ fn right_side_columns<'a>(tables: &'a [Table], side: &Option<Side>) -> &'a [Colu
 }
 
 /// The draft that a document says, or its first fault: fields that are needed and absent (21), of
-/// another kind, or that recipes do not have (23). A name of a table or a column is read as its
-/// place.
+/// another kind, or that recipes do not have (23); or memory is refused. A name of a table or a
+/// column is read as its place. Cost: a look at each field, and for each name one at each table or
+/// column before it.
 #[tactic(auto, unfolding(crate::specs::Fields::draft_at))]
 pub fn draft_at(alloc: Global, document: &Value) -> Result<Draft, PlanError>
     ensures { Gives (λ d. d) result (draft_at (view document.now)) }

@@ -1,5 +1,5 @@
-//! All domains of a plan and all edges between them in one value, and what moves in it: messages and
-//! orders.
+//! All domains of a plan and all edges between them in one value, and what moves in it: messages
+//! and orders.
 #![tactic(auto)]
 
 pub mod bases;

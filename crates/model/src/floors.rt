@@ -44,7 +44,7 @@ impl Floors {
         }
     }
 
-    /// All zeros.
+    /// All zeros. Errors: memory only. Cost: linear in the shards of all views.
     pub fn zeros(alloc: Global, plan: &Plan) -> Result<Floors, AllocError>
         ensures table { IfOk result (λ f. IsTable plan.now f) }
         ensures zeros { IfOk result (λ f. (v j : ℕ) → floor_at f v j ≡ []) }

@@ -16,10 +16,10 @@ const USAGE: &str =
     "usage: noria run RECIPE SCRIPT | noria race RECIPE SCRIPT.. | noria replay RECIPE SCHEDULE";
 
 /// Runs the program on the words behind its name, and gives the exit status: 0 where all was run,
-/// also where single calls were refused; 1 where a recipe, a script, a schedule, the start, a file,
-/// the memory or the output was refused, with the refusal on `err`; 2 for any words but
-/// `run RECIPE SCRIPT`, `race RECIPE SCRIPT..` and `replay RECIPE SCHEDULE`, with the usage line
-/// there. A failed write to `err` leaves the status as it is. All threads that it starts have ended.
+/// also where single calls were refused; 1 where a recipe, a script, a schedule, the start, a
+/// file, the memory or the output was refused, with the refusal on `err`; 2 for any words but `run
+/// RECIPE SCRIPT`, `race RECIPE SCRIPT..` and `replay RECIPE SCHEDULE`, with the usage line there.
+/// A failed write to `err` leaves the status as it is. All threads that it starts have ended.
 pub fn command<
     R: Threads + Wait + Copy + Drop + Send + Sync + 'static,
     T: Texts,

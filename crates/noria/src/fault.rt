@@ -6,8 +6,8 @@ use script::script::ScriptError;
 use std::alloc::AllocError;
 use std::fmt;
 
-/// What ends a run: a refusal, a recipe that is refused, or a line of the script or the schedule that
-/// is of no known form.
+/// What ends a run: a refusal, a recipe that is refused, or a line of the script or the schedule
+/// that is of no known form.
 #[derive(Clone, Copy, PartialEq, Eq, Debug)]
 pub enum Fault {
     Refused(Refused),

@@ -8,13 +8,15 @@ use script::script::{Call, read_script};
 use std::alloc::Global;
 use std::thread::{self, Threads};
 
-/// The plan of the recipe of this name.
+/// The plan of the recipe of this name. Errors: the file cannot be read, memory, or the first fault
+/// of the recipe.
 pub fn plan_named<T: Texts>(alloc: Global, recipe: &str, texts: &mut T) -> Result<Plan, Fault> {
     let text = texts.text(recipe)?;
     Ok(from_bytes(alloc, text.as_slice())?)
 }
 
-/// The calls of the script of this name.
+/// The calls of the script of this name. Errors: the file cannot be read, memory, or the first line
+/// that is no call.
 pub fn calls_named<T: Texts>(
     alloc: Global,
     script: &str,

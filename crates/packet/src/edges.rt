@@ -33,8 +33,8 @@ impl<P: Drop> Edge<P> {
         }
     }
 
-    /// Room for one more: for just one where there is nothing on it, since most messages make a domain
-    /// put out one.
+    /// Room for one more: for just one where there is nothing on it, since most messages make a
+    /// domain put out one.
     fn reserve(&mut self) -> Result<(), Refused>
         ensures only { IsOkUnless result Refused.NoMemory }
         ensures room { OnOk result (0 < self.new.room) }
@@ -136,7 +136,8 @@ impl<P: Drop> Edges<P> {
         self.edges[edge].push(packet);
     }
 
-    /// Puts a packet behind the others on an edge. `NoMemory` leaves what is on the edges as it was.
+    /// Puts a packet behind the others on an edge. `NoMemory` leaves what is on the edges as it
+    /// was.
     pub fn append(&mut self, edge: usize, packet: P) -> Result<(), Refused>
         requires edge { edge < length self.old }
         ensures only { IsOkUnless result Refused.NoMemory }

@@ -36,8 +36,10 @@ pub trait Gather: Drop {
         ensures { IfOk result (λ e. e ≡ total pieces.items) };
 
     /// A change of one piece is that change of the sum.
-    ghost total_changes: { (before after : List Self) (p : Self) (c : Self.Change) → fits p c → total (before ++ plus p c ∷ after) ≡ plus (total (before ++ p ∷ after)) c };
+    ghost total_changes: { (before after : List Self) (p : Self) (c : Self.Change) → fits p c
+        → total (before ++ plus p c ∷ after) ≡ plus (total (before ++ p ∷ after)) c };
 
     /// A change that fits a piece fits the sum.
-    ghost total_fits: { (before after : List Self) (p : Self) (c : Self.Change) → fits p c → fits (total (before ++ p ∷ after)) c };
+    ghost total_fits: { (before after : List Self) (p : Self) (c : Self.Change) → fits p c
+        → fits (total (before ++ p ∷ after)) c };
 }

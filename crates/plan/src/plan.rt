@@ -111,7 +111,7 @@ impl Model for Plan {
 
 impl Plan {
     /// The built-in plan: one table `notes(id int, author int, body text)` with key `id`, and one
-    /// view `by_author` of its rows, keyed by `author`; one shard of each.
+    /// view `by_author` of its rows, keyed by `author`; one shard of each. Errors: memory only.
     #[tactic(auto, unfolding(crate::specs::Profile::IsPlan))]
     pub fn built_in(alloc: Global) -> Result<Plan, AllocError>
         ensures { IfOk result (λ p. p ≡ notes_plan) }

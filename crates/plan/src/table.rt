@@ -29,7 +29,7 @@ impl Model for Column {
 }
 
 impl Column {
-    /// A column of this name. Copies the name.
+    /// A column of this name. Errors: memory only. Cost: a copy of the name.
     pub fn new(alloc: Global, name: &str, kind: Kind) -> Result<Column, AllocError>
         ensures { IfOk result (λ c. c ≡ record { name = name.now; kind = kind }) }
     {

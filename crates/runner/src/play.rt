@@ -30,10 +30,10 @@ pub enum Play {
     Race(Vec<Vec<Call>>),
 }
 
-/// Starts the plan, plays, and writes the answers. A refused call is a line too, or counted, and the
-/// script goes on. Errors: `NoSessionLeft` where more than fifteen scripts race, and nothing is
-/// started; `NoMemory`; `CannotWrite`, and then no further call is made. All threads that it starts
-/// have ended.
+/// Starts the plan, plays, and writes the answers. A refused call is a line too, or counted, and
+/// the script goes on. Errors: `NoSessionLeft` where more than fifteen scripts race, and nothing
+/// is started; `NoMemory`; `CannotWrite`, and then no further call is made. All threads that it
+/// starts have ended.
 pub fn start<R: Threads + Wait + Copy + Drop + Send + 'static, O: Write>(
     rt: R,
     alloc: Global,

@@ -21,8 +21,8 @@ struct Raced<J: Naming> {
     closings: Vec<Command>,
 }
 
-// Runs all scripts at once, and writes what each came to. Then a session that has met all others makes
-// one fence, and the closing reads of all scripts in order.
+// Runs all scripts at once, and writes what each came to. Then a session that has met all others
+// makes one fence, and the closing reads of all scripts in order.
 pub(crate) fn race<
     J: Naming + Send + Sync + 'static,
     R: Threads + Wait + Copy + Drop + Send + 'static,

@@ -1,4 +1,4 @@
--- Edges of one kind.
+-- Edges of one kind. No public clause cites this.
 use Rattle.std.specs.Prelude.{ℕ, List, map}
 use Rattle.std.specs.List.{range_with_len}
 use Rattle.protocol.specs.Edges.{Wire, to_stage_from, to_view_from, to_stage_back, to_base_back}

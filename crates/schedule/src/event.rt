@@ -6,9 +6,10 @@ use row::refused::Refused;
 use row::row::Row;
 use row::value::Value;
 
-/// An event: a call of a session, the delivery of the first message of an edge, an order to evict a
-/// stage key or a key of a view, a stop of a domain, or deliveries until all edges are empty. Tables
-/// and views stand by their names; an edge or a domain is what its text names, if it names one.
+/// An event: a call of a session, the delivery of the first message of an edge, an order to evict
+/// a stage key or a key of a view, a stop of a domain, or deliveries until all edges are empty.
+/// Tables and views stand by their names; an edge or a domain is what its text names, if it names
+/// one.
 #[derive(Drop)]
 pub enum Event {
     Write {

@@ -50,7 +50,8 @@ impl<'p> Model for Places<'p> {
 
     ghost view = { λ v. v.plan.now };
 
-    ghost invariant = { λ v. AreOf v.plan.now v.sources.items v.readers.items v.edges.items v.wires.items };
+    ghost invariant = { λ v. AreOf v.plan.now v.sources.items v.readers.items v.edges.items
+        v.wires.items };
 }
 
 impl<'p> Places<'p> {

@@ -36,8 +36,8 @@ pub fn events_of(alloc: Global, plan: &Plan, lines: Vec<Line>) -> Result<Vec<Eve
     Ok(events)
 }
 
-/// The event that a line asks for over the plan. Errors: memory only. Cost: a look at each word; for
-/// a `deliver` and a `stop` the text of each edge or domain of the plan.
+/// The event that a line asks for over the plan. Errors: memory only. Cost: a look at each word;
+/// for a `deliver` and a `stop` the text of each edge or domain of the plan.
 pub fn event_of(alloc: Global, plan: &Plan, line: EventLine) -> Result<Event, AllocError>
     ensures { IfOk result (λ event. IsEvent plan.now (ask_of line) (event_of event)) }
 {

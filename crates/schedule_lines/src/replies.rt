@@ -11,8 +11,8 @@ use row::row::Row;
 use schedule::event::Reply;
 use std::alloc::{AllocError, Global};
 
-/// A reply as it is printed: a line, and for a hit one more for each row. Errors: memory only. Cost:
-/// the length of the text.
+/// A reply as it is printed: a line, and for a hit one more for each row. Errors: memory only.
+/// Cost: the length of the text.
 pub fn text_of(alloc: Global, plan: &Plan, reply: &Reply) -> Result<String, AllocError>
     ensures { IfOk result (λ text. string_bytes text
         ≡ printed_reply plan.now (reply_of reply.now)) }

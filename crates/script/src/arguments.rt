@@ -32,7 +32,8 @@ pub fn race_of(words: &[String]) -> Option<(&str, &[String])>
 pub fn replay_of(words: &[String]) -> Option<(&str, &str)>
     ensures form { is_some result ≡ is_replay (map string_bytes words.now) }
     ensures recipe { IfSome result (λ f. slice_get (map string_bytes words.now) 1 ≡ Some f.0.now) }
-    ensures schedule { IfSome result (λ f. slice_get (map string_bytes words.now) 2 ≡ Some f.1.now) }
+    ensures schedule { IfSome result (λ f. slice_get (map string_bytes words.now) 2
+        ≡ Some f.1.now) }
 {
     match words {
         [replay, recipe, schedule] if replay.as_str() == "replay" => {

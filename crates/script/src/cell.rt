@@ -9,7 +9,8 @@ use std::alloc::{AllocError, Global};
 
 /// The word as a value for a column of the kind. A number is a word that is printed so: no `+`,
 /// no zero in front of its digits, no `-0`, and from -2^63 to 2^63 - 1. Any other word stays a
-/// text, which a column of numbers refuses by its kind. It copies the digits of a number.
+/// text, which a column of numbers refuses by its kind. It copies the digits of a number. Errors:
+/// memory only.
 #[tactic(auto, using(crate::proofs::Numbers::read_once))]
 pub fn value_of(alloc: Global, kind: Kind, word: String) -> Result<Value, AllocError>
     ensures read { IfOk result (λ value. IsRead kind (string_bytes word) (datum_of value)) }

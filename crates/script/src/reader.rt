@@ -83,7 +83,8 @@ impl<F: Form> Reader<F> {
 }
 
 /// What the lines of a text ask for, in order, with the numbers of the lines. `BadScript` names the
-/// first line that is neither skipped nor of a form. A look at each byte, and a copy of the words.
+/// first line that is neither skipped nor of a form; else only memory is refused. Cost: a look at
+/// each byte, and a copy of the words.
 pub fn read_lines<F: Form>(alloc: Global, text: &[u8]) -> Result<Vec<Call<F>>, ScriptError>
     ensures ok { IfOk result (λ calls. IsScript F.asks 1 (lines_of text.now)
         (map (numbered F.asked) calls.items)) }

@@ -80,7 +80,8 @@ pub fn lines_are_the_text()
 {}
 
 /// The calls of a script, in order, with the numbers of their lines. `BadScript` names the first
-/// line that is neither skipped nor a call. A look at each byte, and a copy of the words.
+/// line that is neither skipped nor a call; else only memory is refused. Cost: a look at each byte,
+/// and a copy of the words.
 pub fn read_script(alloc: Global, text: &[u8]) -> Result<Vec<Call>, ScriptError>
     ensures ok { IfOk result (λ calls. AreOnlyCalls Asks (lines_of text.now)
         (map (numbered action_of) calls.items)) }

@@ -159,7 +159,7 @@ impl Reader {
 }
 
 /// The words of a line, in order, each by its content. `BadLine`: the line has no words in any
-/// reading. A look at each byte, and a copy of it.
+/// reading; else only memory is refused. Cost: a look at each byte, and a copy of it.
 #[tactic(auto, using(crate::proofs::Scan::front_nil))]
 pub fn words(alloc: Global, line: &[u8]) -> Result<Vec<String>, LineError>
     ensures ok { IfOk result (λ found. IsLine line.now (map string_bytes found.items)) }

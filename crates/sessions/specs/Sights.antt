@@ -1,4 +1,4 @@
--- What is found at a look, and the cuts that a fence floors at.
+-- What is found at a look, and the cuts that a fence floors at. No public clause cites this.
 use Rattle.std.specs.Prelude.{◌≡◌, ℕ, ◌<◌, ◌≤◌, List, length, map, slice_get, slice_index_or, slice_set, Some}
 use Rattle.row.specs.Cells.{Datum, Cells}
 use Rattle.plan.specs.Layouts.{Layout}

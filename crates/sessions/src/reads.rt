@@ -49,7 +49,7 @@ impl<J: Naming> Session<J> {
     /// Looks a key of a view up in what is shown, and makes a hit an answer, as one step. It waits
     /// for nobody, and is answered after a stop too. A hit is what the look found: the query's rows
     /// for the key over the cut that it names, which is never below the session's floor there. A
-    /// miss changes nothing.
+    /// miss adds nothing and moves no floor.
     ///
     /// Refused with, looked for in this order: `Stolen` where the session's call numbers are spent
     /// or its word was found moved before, `UnknownView`, `BadKey` where the key is no cell of the

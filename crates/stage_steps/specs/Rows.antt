@@ -1,4 +1,5 @@
--- What is known of the rows of a stage shard, and what records of a side make of them.
+-- What is known of the rows of a stage shard, and what records of a side make of them. No public
+-- clause cites this.
 use Rattle.std.specs.Prelude.{◌≡◌, ℕ, false, filter, List, []}
 use Rattle.row.specs.Bags.{IsAscending}
 use Rattle.row.specs.Cells.{Datum, datum_of, has, row_cmp}

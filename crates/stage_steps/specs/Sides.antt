@@ -1,4 +1,5 @@
--- Which side of the stage a source is of, and what a step reads of records of that side.
+-- Which side of the stage a source is of, and what a step reads of records of that side. No public
+-- clause cites this.
 use Rattle.std.specs.Prelude.{ℕ, ◌-◌, cond, List, [], filter, map, Option, Some, None}
 use Rattle.row.specs.Bags.{sorted}
 use Rattle.row.specs.Cells.{Cells, Datum, datum_cmp}

@@ -1,4 +1,4 @@
--- What a stage shard tells view shards.
+-- What a stage shard tells view shards. No public clause cites this.
 use Rattle.std.specs.Prelude.{ℕ, Bool, true, false, not, cond, List, [], ◌∷◌, map, filter, Option, Some, None, slice_index_or, Vec}
 use Rattle.std.specs.Global.{Global}
 use Rattle.row.specs.Cells.{Datum, cell_at, datum_of, row_cmp}

@@ -1,5 +1,5 @@
-//! The steps of a stage shard: what one message makes of its rows, of the requests that wait, and of
-//! what it puts out.
+//! The steps of a stage shard: what one message makes of its rows, of the requests that wait, and
+//! of what it puts out.
 #![tactic(auto)]
 
 mod edges;

@@ -1,4 +1,5 @@
-//! Sessions of a system that has stopped, answers that are kept, sessions that meet, and four at once.
+//! Sessions of a system that has stopped, answers that are kept, sessions that meet, and four at
+//! once.
 use crate::asks::{Caller, Running, Work, expect, fail};
 use crate::runs::{Scene, run_notes};
 use crate::steps::{Call, Step, Told};
@@ -62,8 +63,8 @@ const AFTER_LOOK: &[Step] = &[
     (Call::Read(7), Ok(Told::Rows(3, 3))),
 ];
 
-// An answer keeps its row while its key takes two more: each changes the copy that the one before it
-// left behind.
+// An answer keeps its row while its key takes two more: each changes the copy that the one before
+// it left behind.
 pub fn calls_of_kept<
     J: Naming + Send + Sync + 'static,
     R: Threads + Wait + Copy + Drop + Send + 'static,

@@ -100,8 +100,8 @@ fn id_of(plan: &Plan, base: usize) -> DomainId {
     }
 }
 
-// Takes one message, sends its reply, for which a session waits, and then its packets. Where a packet
-// is refused the domain stops: a later one would come out of turn.
+// Takes one message, sends its reply, for which a session waits, and then its packets. Where a
+// packet is refused the domain stops: a later one would come out of turn.
 fn turn<J: Naming, R: Wait>(
     worker: &Worker<J, R>,
     domain: &mut BaseDomain<Front<J>>,

@@ -1,4 +1,4 @@
--- What a session notes of the answers to its writes.
+-- What a session notes of the answers to its writes. No public clause cites this.
 use Rattle.std.specs.Prelude.{◌≡◌, ℕ, suc, ◌<◌, List, length, Option, Some, None, slice_get, slice_set}
 use Rattle.protocol.specs.Bases.{Base, Verdict, accepted, declined}
 use Rattle.protocol.specs.Worlds.{Node}

@@ -1,4 +1,4 @@
--- What deliveries of a settle leave.
+-- What deliveries of a settle leave. No public clause cites this.
 use Rattle.std.specs.Prelude.{◌≡◌, ℕ, Bool, not, List, ◌++◌}
 use Rattle.model.specs.Fronts.{LogView}
 use Rattle.model.specs.Histories.{Author}

@@ -1,4 +1,4 @@
--- What a session asks of a view.
+-- What a session asks of a view. No public clause cites this.
 use Rattle.std.specs.Prelude.{◌≡◌, ℕ, ◌<◌, ◌≤◌, ◌⊎◌, List, length, Some, None, slice_get}
 use Rattle.row.specs.Cells.{Datum}
 use Rattle.row.specs.declared.refused.Refused.{Refused}

@@ -1,4 +1,4 @@
--- What a stop makes of the world.
+-- What a stop makes of the world. No public clause cites this.
 use Rattle.std.specs.Prelude.{slice_get}
 use Rattle.protocol.specs.Worlds.{World}
 use Rattle.protocol.specs.WorldSteps.{off_at}
