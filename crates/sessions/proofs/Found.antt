@@ -99,24 +99,24 @@ module _ (p : Layout) (shown : List Snapshot) (v : ℕ) (key : Value) (y : Snaps
 pub same_looked : (c : Caller) → HasLooked c c
 same_looked c = record { looked = all_self c.shown; after = refl }
 
-undone : (P : Refused → Type 0) (c : Caller) (e : Refused) → P e → IsUndone P c c e
+undone : {p : Layout} (P : Refused → Type 0) (c : Caller) (e : Refused) → P e → IsUndone p P c c e
 undone P c e m = record { after = refl; looked = all_self c.shown; number = inl refl; grown = prefix_self c.seen; why = inl (m, refl, refl) }
 
-pub unread : (c : Caller) (e : Refused) → e ≡ NoMemory → IsUnread c c e
-unread = undone (λ e. e ≡ NoMemory)
+pub unread : {p : Layout} (c : Caller) (e : Refused) → e ≡ NoMemory → IsUnread p c c e
+unread c e m = undone (λ e. e ≡ NoMemory) c e m
 
-pub quiet : (c : Caller) (e : Refused) → (e ≡ NoMemory) ⊎ (e ≡ Stopped) → IsUnanswered c c e
+pub quiet : {p : Layout} (c : Caller) (e : Refused) → (e ≡ NoMemory) ⊎ (e ≡ Stopped) → IsUnanswered p c c e
 quiet c e (inl m) = inl (unread c e m)
 quiet c e (inr s) = inr (inl s, same_looked c)
 
-pub looked_unanswered : (p : Layout) (old mid new : Caller) (e : Refused) → HasLooked old mid → IsUnanswered mid new e → IsUnanswered old new e
+pub looked_unanswered : (p : Layout) (old mid new : Caller) (e : Refused) → HasLooked old mid → IsUnanswered p mid new e → IsUnanswered p old new e
 looked_unanswered p old mid new e x (inl u) = inl (looked_undone p old mid new x e u)
 looked_unanswered p old mid new e x (inr r) = inr (r.0, looked_again p old mid new x r.1)
 
 pub within : (p : Layout) (xs : List Code) (shown : List Snapshot) (n : ℕ) → map reader_in xs ≡ readers p → map reader_of shown ≡ readers p → n < length xs → n < length shown
 within p xs shown n a b lt = omega (arith, lt, length-map xs reader_in, length-map shown reader_of, ap length a, ap length b)
 
-pub busy : (c : Caller) (e : Refused) → e ≡ Busy → IsUnanswered c c e
+pub busy : {p : Layout} (c : Caller) (e : Refused) → e ≡ Busy → IsUnanswered p c c e
 busy c e b = inr (inr b, same_looked c)
 
 pub err_to : {A : Type 0} (P Q : Refused → Type 0) (r : Result A Refused) → ((e : Refused) → P e → Q e) → IfErr r P → IfErr r Q
@@ -129,7 +129,7 @@ cut_there p shown n x y there later (Ok c) h = record { was = x; is = y; there =
 cut_there p shown n x y there later (Err e) h = tt
 
 -- ---- fences
-pub unfenced : (c : Caller) (e : Refused) → e ≡ NoMemory → IsUnfenced c c e
+pub unfenced : {p : Layout} (c : Caller) (e : Refused) → e ≡ NoMemory → IsUnfenced p c c e
 unfenced c e m = undone (λ r. (r ≡ NoMemory) ⊎ (r ≡ Stopped) ⊎ (r ≡ Behind)) c e (inl m)
 
 pub unsent : (e : Refused) → (e ≡ NoMemory) ⊎ (e ≡ Stopped) → (e ≡ NoMemory) ⊎ (e ≡ Stopped) ⊎ (e ≡ Behind)

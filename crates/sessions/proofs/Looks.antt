@@ -162,13 +162,13 @@ module _ (p : Layout) (old mid new : Caller) (x : HasLooked old mid) where
     after = rw (session_same, number_same, answered_same, stolen_same, seen_same, accepted_same, floors_same) at r.after;
   }
 
-  pub looked_undone : {P : Refused → Type 0} → (r : Refused) → IsUndone P mid new r → IsUndone P old new r
+  pub looked_undone : {P : Refused → Type 0} → (r : Refused) → IsUndone p P mid new r → IsUndone p P old new r
   looked_undone r u = record {
     after = rw (session_same, answered_same, accepted_same, floors_same) at u.after;
     looked = all_trans old.shown mid.shown new.shown x.looked u.looked;
     number = rw number_same at u.number;
     grown = rw seen_same at u.grown;
-    why = rw (seen_same, stolen_same) at u.why;
+    why = rw (seen_same, stolen_same, session_same, answered_same) at u.why;
   }
 
   pub looked_fenced : IsFenced p mid new → IsFenced p old new

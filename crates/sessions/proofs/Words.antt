@@ -66,5 +66,5 @@ module _ (p : Layout) (number : ℕ) (stolen : Bool) (seen : List Item) (accepte
   )
 
   -- and the call is refused so
-  pub stolen_undone : {P : Refused → Type 0} → (h : List Item) → h ≡ n.seen → IsUndone P (caller_of w number stolen seen accepted shown) (caller_of n (number + 1) true h accepted shown) Stolen
-  stolen_undone h is = rw (is, session_same, answered_same, floors_same) (record { after = refl; looked = all_self shown; number = inr refl; grown = grown; why = inr (refl, refl) })
+  pub stolen_undone : {P : Refused → Type 0} → (h : List Item) → h ≡ n.seen → IsUndone p P (caller_of w number stolen seen accepted shown) (caller_of n (number + 1) true h accepted shown) Stolen
+  stolen_undone h is = rw (is, session_same, answered_same, floors_same) (record { after = refl; looked = all_self shown; number = inr refl; grown = grown; why = inr (refl, refl, rw (session_same, answered_same) at moved.more) })

@@ -10,7 +10,7 @@ use Rattle.model.specs.Legal.{EachShard}
 use Rattle.packet.specs.Readers.{Reader, readers}
 use Rattle.shown.specs.Snapshots.{Snapshot, IsLater}
 
--- who it is, the number of its next call, how many reads and fences it has answered, whether its word was moved by another, what it has seen, the greatest index accepted in each base shard, its floors, and what it has last looked at of each shard of each view
+-- who it is, the number of its next call, how many reads and fences it has answered, whether its word was found moved by another, what it has seen, the greatest index accepted in each base shard, its floors, and what it has last looked at of each shard of each view
 pub record Caller : Type 0 where
   pub session : ℕ
   pub number : ℕ
@@ -62,6 +62,10 @@ pub record IsSight (shown : List Snapshot) (v j : ℕ) (s : Snapshot) : Type 0 w
   pub place : ℕ
   pub there : slice_get shown place ≡ Some s
   pub of : reader_of s ≡ record { view = v; shard = j }
+
+-- only what it has seen may differ
+abbrev pub KeepsRest : Caller → Caller → Type 0
+KeepsRest old new = new ≡ record old { seen = new.seen }
 
 -- the caller of these parts
 abbrev pub caller_with : ℕ → ℕ → ℕ → Bool → List Item → List (Option ℕ) → Floors → List Snapshot → Caller

@@ -42,5 +42,5 @@ pub record IsFenced (p : Layout) (old new : Caller) : Type 0 where
   pub looked : AreLater old.shown new.shown
 
 -- a fence is refused so
-abbrev pub IsUnfenced : Caller → Caller → Refused → Type 0
-IsUnfenced old new r = IsUndone (λ e. (e ≡ NoMemory) ⊎ (e ≡ Stopped) ⊎ (e ≡ Behind)) old new r
+abbrev pub IsUnfenced : Layout → Caller → Caller → Refused → Type 0
+IsUnfenced p old new r = IsUndone p (λ e. (e ≡ NoMemory) ⊎ (e ≡ Stopped) ⊎ (e ≡ Behind)) old new r

@@ -24,7 +24,7 @@ abbrev pub first_of : Option Refused → Option Refused → Option Refused
 first_of None o = o
 first_of (Some r) o = Some r
 
--- Stolen where the session's word was moved by another, or its call numbers are spent
+-- Stolen where the session's word was found moved by another, or its call numbers are spent
 abbrev pub stolen_refusal : Caller → Option Refused
 stolen_refusal c = cond (c.stolen || nat_le last_number c.number) (Some Stolen) None
 

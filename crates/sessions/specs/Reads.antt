@@ -1,5 +1,5 @@
 -- What a read does to its session.
-use Rattle.std.specs.Prelude.{◌≡◌, ◌⊎◌, ℕ, ◌+◌, true, List, Option, Some, None, Result, Err, IfOk, IfErr, IfSome}
+use Rattle.std.specs.Prelude.{◌≡◌, ◌⊎◌, ℕ, ◌+◌, ◌<◌, true, List, Option, Some, None, Result, Err, IfOk, IfErr, IfSome}
 use mathlib.Core.List.{IsPrefix}
 use Rattle.row.specs.Cells.{Datum, Cells}
 use Rattle.row.specs.declared.refused.Refused.{Refused}
@@ -81,21 +81,21 @@ pub record Misses (p : Layout) (old new : Caller) (name : List ℕ) (k : Datum) 
   pub named : view_named p name ≡ Some view
   pub missed : IsMissed p old new view k
 
--- a call that is refused leaves the floors and what was accepted; and all that was seen, where the refusal is of the store, but not where the word was moved by another
-pub record IsUndone (OfStore : Refused → Type 0) (old new : Caller) (r : Refused) : Type 0 where
+-- a call that is refused leaves the floors and what was accepted; and all that was seen, where the refusal is of the store; where the word was moved by another, what was then seen has more items of the session than it had answered
+pub record IsUndone (p : Layout) (OfStore : Refused → Type 0) (old new : Caller) (r : Refused) : Type 0 where
   pub after : new ≡ record old { number = new.number; stolen = new.stolen; seen = new.seen; shown = new.shown }
   pub looked : AreLater old.shown new.shown
   pub number : (new.number ≡ old.number) ⊎ (new.number ≡ old.number + 1)
   pub grown : IsPrefix old.seen new.seen
-  pub why : OfStore r × (new.seen ≡ old.seen) × (new.stolen ≡ old.stolen) ⊎ (r ≡ Stolen) × (new.stolen ≡ true)
+  pub why : OfStore r × (new.seen ≡ old.seen) × (new.stolen ≡ old.stolen) ⊎ (r ≡ Stolen) × (new.stolen ≡ true) × (old.answered < own_items p old.session new.seen)
 
 -- a read is refused so
-abbrev pub IsUnread : Caller → Caller → Refused → Type 0
-IsUnread old new r = IsUndone (λ e. e ≡ NoMemory) old new r
+abbrev pub IsUnread : Layout → Caller → Caller → Refused → Type 0
+IsUnread p old new r = IsUndone p (λ e. e ≡ NoMemory) old new r
 
 -- a read that waits is refused so too, or it has only looked
-abbrev pub IsUnanswered : Caller → Caller → Refused → Type 0
-IsUnanswered old new r = IsUnread old new r ⊎ ((r ≡ Stopped) ⊎ (r ≡ Busy)) × HasLooked old new
+abbrev pub IsUnanswered : Layout → Caller → Caller → Refused → Type 0
+IsUnanswered p old new r = IsUnread p old new r ⊎ ((r ≡ Stopped) ⊎ (r ≡ Busy)) × HasLooked old new
 
 -- what a try of a read of the named view comes to, of so many sessions: what was seen is legal, and it is refused for what it asks, a hit, a miss, or refused so
 pub record Tries (p : Layout) (sessions : ℕ) (old new : Caller) (name : List ℕ) (k : Datum) (r : Result Found Refused) : Type 0 where
@@ -103,11 +103,11 @@ pub record Tries (p : Layout) (sessions : ℕ) (old new : Caller) (name : List �
   pub why : IfSome (asked_refusal p old name k) (λ e. (r ≡ Err e) × (new ≡ old))
   pub hit : IfOk r (OnHit (λ rows cut. Reads p old new name k rows cut))
   pub miss : IfOk r (OnMiss (Misses p old new name k))
-  pub refused : IfErr r (λ e. (asked_refusal p old name k ≡ Some e) ⊎ IsUnread old new e)
+  pub refused : IfErr r (λ e. (asked_refusal p old name k ≡ Some e) ⊎ IsUnread p old new e)
 
 -- what a read of the named view that waits comes to, of so many sessions: what was seen is legal, and it is refused for what it asks, answered, or refused so
 pub record Answers (p : Layout) (sessions : ℕ) (old new : Caller) (name : List ℕ) (k : Datum) (r : Result Answer Refused) : Type 0 where
   pub legal : IsLegal p sessions new.seen
   pub why : IfSome (asked_refusal p old name k) (λ e. (r ≡ Err e) × (new ≡ old))
   pub answer : IfOk r (λ a. Reads p old new name k a.rows a.cut)
-  pub refused : IfErr r (λ e. (asked_refusal p old name k ≡ Some e) ⊎ IsUnanswered old new e)
+  pub refused : IfErr r (λ e. (asked_refusal p old name k ≡ Some e) ⊎ IsUnanswered p old new e)

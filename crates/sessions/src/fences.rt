@@ -36,7 +36,7 @@ impl<J: Naming> Session<J> {
             → (result ≡ Err Refused.Stolen) × (self.new ≡ self.old) }
         ensures fenced { OnOk result (IsFenced J.plan self.old self.new) }
         ensures refused { IfErr result (λ e. (stolen_refusal self.old ≡ Some e)
-            × (self.new ≡ self.old) ⊎ IsUnfenced self.old self.new e) }
+            × (self.new ≡ self.old) ⊎ IsUnfenced J.plan self.old self.new e) }
     {
         let answer = self.fence_sources(rt, alloc);
         self.seen.is_legal();
@@ -48,7 +48,7 @@ impl<J: Naming> Session<J> {
             → (result ≡ Err Refused.Stolen) × (self.new ≡ self.old) }
         ensures fenced { OnOk result (IsFenced J.plan self.old self.new) }
         ensures refused { IfErr result (λ e. (stolen_refusal self.old ≡ Some e)
-            × (self.new ≡ self.old) ⊎ IsUnfenced self.old self.new e) }
+            × (self.new ≡ self.old) ⊎ IsUnfenced J.plan self.old self.new e) }
     {
         if self.is_spent() {
             return Err(Refused::Stolen);
@@ -109,7 +109,7 @@ impl<J: Naming> Session<J> {
         requires number { self.old.number < last_number }
         requires cuts { Each (IsCut J.plan looked.now cuts) self.old.shown }
         ensures fenced { OnOk result (IsFenced J.plan self.old self.new) }
-        ensures refused { IfErr result (λ e. IsUnfenced self.old self.new e) }
+        ensures refused { IfErr result (λ e. IsUnfenced J.plan self.old self.new e) }
     {
         let _looked = looked.len();
         self.number += 1;

@@ -73,7 +73,7 @@ impl<J: Naming> Session<J> {
         ensures miss { IfOk result (OnMiss
             (Misses J.plan self.old self.new view.now (datum_of key.now))) }
         ensures refused { IfErr result (λ e. (asked_refusal J.plan self.old view.now
-            (datum_of key.now) ≡ Some e) ⊎ IsUnread self.old self.new e) }
+            (datum_of key.now) ≡ Some e) ⊎ IsUnread J.plan self.old self.new e) }
     {
         if self.is_spent() {
             return Err(Refused::Stolen);
@@ -90,7 +90,7 @@ impl<J: Naming> Session<J> {
             IsRead J.plan self.old self.new view (datum_of key.now) rows cut)) }
         ensures miss { IfOk result (OnMiss
             (IsMissed J.plan self.old self.new view (datum_of key.now))) }
-        ensures refused { IfErr result (λ e. IsUnread self.old self.new e) }
+        ensures refused { IfErr result (λ e. IsUnread J.plan self.old self.new e) }
     {
         let found = match self.find(alloc, view, key) {
             Ok(found) => found,
@@ -133,7 +133,7 @@ impl<J: Naming> Session<J> {
         requires found { Finds J.plan self.old.shown view (datum_of key.now) rows cut }
         ensures read { IfOk result (λ a.
             IsRead J.plan self.old self.new view (datum_of key.now) a.rows a.cut) }
-        ensures refused { IfErr result (λ e. IsUnread self.old self.new e) }
+        ensures refused { IfErr result (λ e. IsUnread J.plan self.old self.new e) }
     {
         let lengths = cut.lengths().try_clone(alloc)?;
         let shard = key_shard(self.plan(), view, key);
@@ -157,10 +157,9 @@ impl<J: Naming> Session<J> {
     /// try.
     ///
     /// Refused as `try_read` is; at a miss then with `Stopped` where the view shard, a stage shard
-    /// or a source has stopped, or the store; `Busy` at the 64th miss; `Stolen` where the numbers
-    /// of the session's waits are spent. A refused read leaves the floors and what was accepted,
-    /// and but for `Stolen` what was seen. Cost: for each miss that of a look-up, two copies of the
-    /// key, one message and one wait.
+    /// or a source has stopped, or the store; `Busy` at the 64th miss. A refused read leaves the
+    /// floors and what was accepted, and but for `Stolen` what was seen. Cost: for each miss that
+    /// of a look-up, two copies of the key, one message and one wait.
     pub fn read<R: Wait>(&mut self, rt: &R, alloc: Global, view: &str, key: &Value) -> Reading
         ensures { Answers J.plan J.sessions self.old self.new view.now (datum_of key.now) result }
     {
@@ -175,7 +174,7 @@ impl<J: Naming> Session<J> {
         ensures answer { IfOk result (λ a.
             Reads J.plan self.old self.new view.now (datum_of key.now) a.rows a.cut) }
         ensures refused { IfErr result (λ e. (asked_refusal J.plan self.old view.now
-            (datum_of key.now) ≡ Some e) ⊎ IsUnanswered self.old self.new e) }
+            (datum_of key.now) ≡ Some e) ⊎ IsUnanswered J.plan self.old self.new e) }
     {
         if self.is_spent() {
             return Err(Refused::Stolen);
@@ -190,7 +189,7 @@ impl<J: Naming> Session<J> {
         requires number { self.old.number < last_number }
         ensures answer { IfOk result (λ a.
             IsRead J.plan self.old self.new view (datum_of key.now) a.rows a.cut) }
-        ensures refused { IfErr result (λ e. IsUnanswered self.old self.new e) }
+        ensures refused { IfErr result (λ e. IsUnanswered J.plan self.old self.new e) }
     {
         let mut turns = ReadTurns::new();
         for _turn in rt.forever() {
@@ -221,7 +220,7 @@ impl<J: Naming> Session<J> {
     ) -> Result<(), Refused>
         requires view { view < length J.plan.views }
         ensures waited { OnOk result (self.new ≡ self.old) }
-        ensures refused { IfErr result (λ e. IsUnanswered self.old self.new e) }
+        ensures refused { IfErr result (λ e. IsUnanswered J.plan self.old self.new e) }
     {
         let place = key_place(&self.routes, view, key);
         if self.routes.is_cut_off(place) {
@@ -230,12 +229,9 @@ impl<J: Naming> Session<J> {
         if let Err(refused) = turns.miss() {
             return Err(refused);
         }
-        if self.waits == u64::MAX {
-            self.stolen = true;
-            return Err(Refused::Stolen);
-        }
         let number = self.waits;
-        self.waits += 1;
+        // (no session waits 2^64 times)
+        self.waits = number.wrapping_add(1);
         fill(
             rt,
             alloc,

@@ -87,7 +87,7 @@ impl<J: Naming> Model for Session<J> {
 }
 
 impl<J: Naming> Session<J> {
-    ghost use Rattle.sessions.specs.{Callers.Caller, Callers.reader_of, Inserts.Accepts, Inserts.Declines, Inserts.IsRefused, Inserts.IsTaken, Inserts.IsUntaken, Inserts.Writes, Inserts.call_refusal, Inserts.stolen_refusal};
+    ghost use Rattle.sessions.specs.{Callers.Caller, Callers.KeepsRest, Callers.reader_of, Inserts.Accepts, Inserts.Declines, Inserts.IsTaken, Inserts.IsUntaken, Inserts.Writes, Inserts.call_refusal, Inserts.stolen_refusal};
 
     /// The session of this word, which has answered nothing and made no call. It has a reader of
     /// each shard of each view, in order, and has accepted no write in any base shard.
@@ -145,7 +145,7 @@ impl<J: Naming> Session<J> {
     /// the base shard's reply.
     ///
     /// Refused with, looked for in this order: `Stolen` where the session's call numbers are
-    /// spent or its word was moved by another, `UnknownTable`, `BadRow` where the row does not fit,
+    /// spent or its word was found moved before, `UnknownTable`, `BadRow` where the row does not fit,
     /// `Stopped` where the base shard or the store has stopped, `Duplicate` where its key is
     /// there, `LogFull`; `NoMemory` at any place after `BadRow`. A refused call leaves the floors
     /// and what was accepted; after `Duplicate` and `LogFull` the session has seen the log that
@@ -263,9 +263,7 @@ impl<J: Naming> Session<J> {
         ensures both { self.new.seen ≡ other.new.seen }
         ensures this { IsPrefix self.old.seen self.new.seen }
         ensures that { IsPrefix other.old.seen other.new.seen }
-        ensures rest { IsRefused self.old self.new × IsRefused other.old other.new }
-        ensures numbers { (self.new.number ≡ self.old.number)
-            × (other.new.number ≡ other.old.number) }
+        ensures rest { KeepsRest self.old self.new × KeepsRest other.old other.new }
     {
         self.seen.meet(&mut other.seen);
         self.seen.is_legal();

@@ -21,4 +21,4 @@ returns-in-Ok-shown_cuts-clause-fenced g c =
 
 pub returns-in-Ok-shown_cuts-clause-refused : goal.returns-in-Ok-shown_cuts-clause-refused
 returns-in-Ok-shown_cuts-clause-refused g c =
-    err_to (IsUnfenced c.shown_cuts.new.self c.end_fence.new.self) _ c.end_fence.result (λ e h. inr (looked_undone g.J.Naming.plan _ _ _ c.shown_cuts.ensures.looked e h)) c.end_fence.ensures.refused
+    err_to (IsUnfenced g.J.Naming.plan c.shown_cuts.new.self c.end_fence.new.self) _ c.end_fence.result (λ e h. inr (looked_undone g.J.Naming.plan _ _ _ c.shown_cuts.ensures.looked e h)) c.end_fence.ensures.refused
