@@ -1,4 +1,3 @@
-mod EdgeSamples
 mod BaseSamples
 mod ViewSamples
 mod StageSamples
@@ -6,6 +5,7 @@ mod SampleWords
 mod WorldSamples
 mod CallSamples
 mod ShardedSamples
+pub mod Leading
 pub mod Wired
 pub mod Lists
 pub mod EdgeLaws
@@ -26,3 +26,4 @@ pub mod Ranges
 pub mod Caps
 pub mod Evictions
 pub mod BaseTruth
+pub mod PlanEdges

@@ -6,8 +6,8 @@ use Rattle.plan.specs.Domains.{edges, domains}
 use Rattle.plan.specs.declared.domain.DomainId.{DomainId}
 use Rattle.plan.specs.declared.domain.DomainId.TheVariants as domain
 use Rattle.plan.specs.declared.domain.Edge.{Edge}
-use Rattle.model.specs.Places.{sources}
-use Rattle.packet.specs.Readers.{readers, is_reader}
+use Rattle.model.specs.Places.{sources, source_at, table_of, shard_of}
+use Rattle.packet.specs.Readers.{Reader, readers, is_reader}
 
 -- ---- queues, by receiver and then by sender
 -- these go last on the edges from sender i to each receiver
@@ -56,6 +56,31 @@ wires p =
     ++ pairs to_view_from p.stages (length (readers p))
     ++ pairs to_stage_back (length (readers p)) p.stages
     ++ pairs to_base_back p.stages (length (sources p))
+
+-- base shard b, and a shard of a view, as domains
+abbrev pub domain_of_base : Layout → ℕ → DomainId
+domain_of_base p b = domain.Base (table_of p b) (shard_of p b)
+
+abbrev pub domain_of_reader : Reader → DomainId
+domain_of_reader r = domain.View r.view r.shard
+
+-- the source, and the view shard, at a place: a column of a line, and a row of the inboxes
+abbrev pub source_of : Layout → ℕ → DomainId
+source_of p j = domain_of_base p (source_at p j)
+
+abbrev pub reader_of : Layout → ℕ → DomainId
+reader_of p r = domain_of_reader (slice_index_or (readers p) r (record { view = 0; shard = 0 }))
+
+-- the edge from this domain to that
+abbrev pub joins : DomainId → DomainId → Edge
+joins a b = record { from = a; to = b }
+
+-- the edge of the plan whose ends stand at these places
+abbrev pub edge_of : Layout → Wire → Edge
+edge_of p (to_stage_from j s) = joins (source_of p j) (domain.Stage s)
+edge_of p (to_view_from s r) = joins (domain.Stage s) (reader_of p r)
+edge_of p (to_stage_back r s) = joins (reader_of p r) (domain.Stage s)
+edge_of p (to_base_back s j) = joins (domain.Stage s) (source_of p j)
 
 -- the two domains are one
 abbrev pub is_domain : DomainId → DomainId → Bool

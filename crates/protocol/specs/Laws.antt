@@ -1,8 +1,9 @@
 -- What holds of every schedule and of every step, beside the replies.
-use Rattle.std.specs.Prelude.{◌≡◌, ℕ, ◌<◌, ◌≤◌, ◌+◌, Bool, true, List, [], ◌∷◌, length, Option, Some, None, slice_get, ◌&&◌, ◌++◌}
+use Rattle.std.specs.Prelude.{◌≡◌, ℕ, ◌<◌, ◌≤◌, ◌+◌, Bool, true, List, [], ◌∷◌, length, map, Option, Some, None, slice_get, ◌&&◌, ◌++◌}
 use mathlib.Core.List.{IsPrefix}
 use Rattle.plan.specs.Layouts.{Layout, view_at}
 use Rattle.plan.specs.Profile.{IsPlan}
+use Rattle.plan.specs.Domains.{edges}
 use Rattle.packet.specs.Messages.{Ask, BasePacketView, Sent}
 use Rattle.packet.specs.Keys.{Keys, is_among, Ascends}
 use Rattle.packet.specs.Truth.{Grows, IsTrueBase}
@@ -13,15 +14,20 @@ use Rattle.protocol.specs.Views.{View, ToView, packet, want, order}
 use Rattle.protocol.specs.ViewSteps as on_view
 use Rattle.protocol.specs.Worlds.{Node, World, start}
 use Rattle.protocol.specs.Events.{Event}
-use Rattle.protocol.specs.Edges.{queue, Wire}
+use Rattle.protocol.specs.Edges.{queue, Wire, wires, edge_of}
 use Rattle.protocol.specs.WorldSteps.{step, delivery}
 use Rattle.std.specs.List.{list_any}
 use Rattle.row.specs.Cells.{Datum, Cells, cell_at, same}
 use Rattle.packet.specs.Readers.{Reader, is_of}
 use Rattle.row.specs.Bags.{Each}
 use Rattle.model.specs.Places.{layout_of}
-use Rattle.protocol.specs.Bases.{Base, ToBase}
+use Rattle.protocol.specs.Bases.{last_number, Base, ToBase}
 use Rattle.model.specs.Logs.{Change, lawful}
+
+-- ---- edges
+-- the edges by the places of their ends are the plan's, in its order
+abbrev pub EveryEdge : Type 0
+EveryEdge = (p : Layout) → IsPlan p → map (edge_of p) (wires p) ≡ edges p
 
 -- ---- packets in turn
 -- the packet goes on from the front that the stage shard holds of its source
@@ -113,4 +119,4 @@ IsOf p (order k) = Unit {0}
 
 -- a view shard counts each request that it sends, up to the greatest number
 abbrev pub AreCounted : Type 0
-AreCounted = (v : View) (m : ToView) → IsOf v.plan m → v.asked ≤ on_view.most → (on_view.step v m).view.asked ≡ on_view.counted v.asked (total (on_view.step v m).requests)
+AreCounted = (v : View) (m : ToView) → IsOf v.plan m → v.asked ≤ last_number → (on_view.step v m).view.asked ≡ on_view.counted v.asked (total (on_view.step v m).requests)

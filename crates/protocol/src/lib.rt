@@ -3,11 +3,16 @@
 //! holds of the definitions.
 #![tactic(auto)]
 
-ghost use Rattle.protocol.specs.{Laws.EveryTurn, Laws.EveryBasePacket, Laws.EveryEviction, Laws.StageCap, Laws.ViewCap, Laws.AreCounted, Theorem.EverySchedule};
+ghost use Rattle.protocol.specs.{Laws.EveryEdge, Laws.EveryTurn, Laws.EveryBasePacket, Laws.EveryEviction, Laws.StageCap, Laws.ViewCap, Laws.AreCounted, Theorem.EverySchedule};
 
 /// For every plan and every schedule the replies tell of a legal history.
 pub fn every_schedule()
     ensures legal { EverySchedule }
+{}
+
+/// The edges on which messages lie, by the places of their ends, are the plan's, in its order.
+pub fn every_edge()
+    ensures wires { EveryEdge }
 {}
 
 /// For every plan and every schedule, between any two deliveries, the first packet on each edge to
