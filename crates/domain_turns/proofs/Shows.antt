@@ -33,7 +33,7 @@ use Rattle.view_domain.specs.Shown.{key_in, shown_after}
 use Rattle.view_domain.specs.Shown.{turned as turned_by}
 use Rattle.view_domain.specs.declared.shown.KeyChange.{KeyChange}
 use Rattle.view_domain.specs.declared.shown.KeyChange.TheVariants.{Fills, Turns, Goes}
-use Rattle.domain_turns.specs.ViewTurns.{IsUntaken, Shows}
+use Rattle.domain_turns.specs.ViewTurns.{Shows}
 
 -- ---- keys
 without_same : (k d : Datum) (rows : Rows) → same k d ≡ true → shown_at (without d rows) k ≡ None
@@ -158,6 +158,10 @@ step_stays v (want k) = by (is_hole (v.keys.at k))
 -- what runs is not broken
 pub sound : (m : Mode) → m ≡ Running → m ≢ Broken
 sound m running broken = let e : Running ≡ Broken = sym running ∙ broken in cc
+
+-- a packet out of turn, and all else is as it was; or want of memory. It does not run
+abbrev pub IsUntaken : ToView → Domain → Refused → Domain → Type 0
+IsUntaken m old e new = ((e ≡ Gap) × (IsNext old m → ⊥) × (new ≡ stopped old)) ⊎ ((e ≡ NoMemory) × IsNext old m × (new.mode ≢ Running))
 
 -- a domain that fails does not run
 pub untaken : (m : ToView) (old new : Domain) (e : Refused) (out : OutboxView) → Fails m old e out new → IsUntaken m old e new

@@ -43,10 +43,6 @@ pub record IsTaken (m : ToView) (old : Domain) (out : OutboxView) (new : Domain)
   pub told : out.shown ≡ None
   pub running : new.mode ≡ Running
 
--- a packet out of turn, and all else is as it was; or want of memory. It does not run
-abbrev pub IsUntaken : ToView → Domain → Refused → Domain → Type 0
-IsUntaken m old e new = ((e ≡ Gap) × (IsNext old m → ⊥) × (new ≡ stopped old)) ⊎ ((e ≡ NoMemory) × IsNext old m × (new.mode ≢ Running))
-
 -- the packet is to the view shard, from this stage shard of the plan
 pub record IsOwn (d : Domain) (s : ℕ) (x : StagePacketView) : Type 0 where
   pub plan : x.plan ≡ d.plan

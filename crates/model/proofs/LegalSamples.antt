@@ -4,7 +4,8 @@ use Rattle.std.proofs.lemmas.Bool.Decides.{nat_tests}
 use Rattle.row.specs.Cells.{text, Cells, cell_at}
 use Rattle.row.specs.declared.refused.Refused.TheVariants.{Duplicate, Absent}
 use Rattle.plan.specs.Layouts.{Layout}
-use Rattle.plan.specs.Recipes.{notes_plan, notes_sharded, view}
+use Rattle.plan.specs.Recipes.{notes_plan, view}
+use Rattle.plan.proofs.SamplePlans.{notes_sharded}
 use Rattle.model.specs.Logs.{Change, inserts, deletes, updates, rows_of, is_held, lawful}
 use Rattle.model.specs.Refusals.{refusal, full}
 use Rattle.model.specs.Places.{source_at}

@@ -3,7 +3,8 @@ use Rattle.std.proofs.Common.{◌≡◌, ℕ, Bool, true, false, List, [], ◌�
 use Rattle.row.specs.Cells.{text}
 use Rattle.plan.specs.Layouts.{Layout}
 use Rattle.plan.specs.Outputs.{pass}
-use Rattle.plan.specs.Recipes.{clicks_summed, votes_counted, votes_small, view}
+use Rattle.plan.specs.Recipes.{view}
+use Rattle.plan.proofs.SamplePlans.{clicks_summed, votes_counted, votes_small}
 use Rattle.plan.specs.declared.kinds.Aggregate.TheVariants.{Count}
 use Rattle.plan.specs.declared.kinds.Op.{Op}
 use Rattle.plan.specs.declared.kinds.Op.TheVariants as op

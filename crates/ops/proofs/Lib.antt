@@ -7,3 +7,4 @@ pub mod StageSteps
 pub mod Takes
 pub mod Fits
 pub mod Untold
+pub mod Stepped

@@ -2,4 +2,3 @@ pub mod Changes
 pub mod SideRows
 pub mod Stages
 pub mod Walks
-pub mod Steps

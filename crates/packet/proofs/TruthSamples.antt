@@ -3,7 +3,7 @@ use Rattle.std.proofs.Common.{ℕ, List, [], ◌∷◌, refl, Option, Some, None
 use Rattle.row.specs.Cells.{Cells}
 use Rattle.row.specs.declared.record.Record.{Record}
 use Rattle.row.specs.declared.record.Sign.TheVariants.{Plus}
-use Rattle.plan.specs.Recipes.{votes_small}
+use Rattle.plan.proofs.SamplePlans.{votes_small}
 use Rattle.model.specs.Logs.{Change, inserts}
 use Rattle.model.specs.Queries.{Line}
 use Rattle.model.proofs.Samples.{n}

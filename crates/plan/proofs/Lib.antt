@@ -7,3 +7,4 @@ pub mod KeyOutputs
 pub mod Ranges
 pub mod OwnTexts
 pub mod RowCells
+pub mod SamplePlans

@@ -4,7 +4,8 @@ use Rattle.row.specs.Cells.{Cells}
 use Rattle.row.specs.declared.record.Record.{Record}
 use Rattle.row.specs.declared.refused.Refused.TheVariants.{Duplicate}
 use Rattle.plan.specs.Layouts.{Layout}
-use Rattle.plan.specs.Recipes.{votes_counted, stories, votes, notes_table}
+use Rattle.plan.specs.Recipes.{notes_table}
+use Rattle.plan.proofs.SamplePlans.{votes_counted, stories, votes}
 use Rattle.model.specs.Logs.{Change, inserts, updates}
 use Rattle.model.specs.Histories.{Author}
 use Rattle.model.proofs.Samples.{n}

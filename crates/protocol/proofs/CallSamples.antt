@@ -2,7 +2,7 @@
 use Rattle.std.proofs.Common.{true, ◌≡◌, ℕ, List, [], ◌∷◌, ◌++◌, map, take, refl, Some, None, codes}
 use Rattle.row.specs.Cells.{text}
 use Rattle.row.specs.declared.refused.Refused.TheVariants.{UnknownTable, BadRow, UnknownView, BadKey, Stopped, UnknownPlace}
-use Rattle.plan.specs.Recipes.{votes_small, clicks_summed}
+use Rattle.plan.proofs.SamplePlans.{votes_small, clicks_summed}
 use Rattle.plan.specs.declared.domain.DomainId.TheVariants as domain
 use Rattle.model.specs.Logs.{inserts, deletes}
 use Rattle.model.proofs.Samples.{n}

@@ -26,7 +26,8 @@ use Rattle.model.proofs.Growth.{legal_more, at_most_self}
 use mathlib.Core.List.{IsPrefix}
 use Rattle.packet.specs.Readers.{Reader, readers}
 use Rattle.partial.specs.States.{is_filled}
-use Rattle.packet.specs.Truth.{IsRun, Pointwise, IsBaseRun, Grows}
+use Rattle.packet.specs.Truth.{Pointwise, Grows}
+use Rattle.protocol.proofs.Leading.{IsRun, IsBaseRun}
 use Rattle.protocol.specs.Bases.{Base}
 use Rattle.protocol.specs.Stages.{Stage}
 use Rattle.protocol.specs.Views.{View}

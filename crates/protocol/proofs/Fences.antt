@@ -18,7 +18,8 @@ use Rattle.model.specs.Legal.{IsPast, AllowsFence, most_sessions}
 use Rattle.model.proofs.Growth.{legal_more, at_most_self}
 use Rattle.packet.specs.Readers.{readers, is_reader}
 use Rattle.packet.specs.Messages.{Sent, Mark}
-use Rattle.packet.specs.Truth.{IsRun, Pointwise, Grows}
+use Rattle.packet.specs.Truth.{Pointwise, Grows}
+use Rattle.protocol.proofs.Leading.{IsRun}
 use Rattle.protocol.specs.Bases.{Base}
 use Rattle.protocol.specs.Views.{View}
 use Rattle.protocol.specs.Worlds.{Node, World, Caller, Fence}

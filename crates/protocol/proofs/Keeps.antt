@@ -25,7 +25,7 @@ use Rattle.protocol.proofs.EdgeLaws.{edges_lost, edges_taken, edges_same, three_
 use Rattle.protocol.proofs.Parts.{HasSent, request_sent, marker_sent, line_taken, line_request, line_order}
 use Rattle.protocol.proofs.Moves.{wired_base, wired_stage, wired_edges, with_edges}
 use Rattle.protocol.proofs.Runs.{ran, GoesOn}
-use Rattle.packet.specs.Truth.{IsBaseRun}
+use Rattle.protocol.proofs.Leading.{IsBaseRun}
 
 -- it holds of a further world
 pub record Kept (p : Layout) (past : List Event) (h : List Item) (w : World) : Type 0 where

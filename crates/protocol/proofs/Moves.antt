@@ -13,7 +13,8 @@ use Rattle.model.specs.Cuts.{IsAtMost}
 use mathlib.Core.List.{IsPrefix}
 use Rattle.packet.specs.Readers.{readers}
 use Rattle.packet.specs.Messages.{Ask, BasePacketView, Sent}
-use Rattle.packet.specs.Truth.{IsRun, Pointwise, IsBaseRun, Grows}
+use Rattle.packet.specs.Truth.{Pointwise, Grows}
+use Rattle.protocol.proofs.Leading.{IsRun, IsBaseRun}
 use Rattle.protocol.specs.Bases.{Base}
 use Rattle.protocol.specs.Stages.{Stage}
 use Rattle.protocol.specs.Views.{View}

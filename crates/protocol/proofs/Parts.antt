@@ -16,7 +16,8 @@ use Rattle.packet.specs.Readers.{view_of, side_of}
 use Rattle.packet.specs.Messages.{Ask, BasePacketView, Sent, Mark, Piece, none_of}
 use Rattle.packet.specs.Keys.{Keys}
 use Rattle.partial.specs.States.{is_filled, is_hole}
-use Rattle.packet.specs.Truth.{IsRun, IsBaseRun, Grows, Given, IsBaseStep}
+use Rattle.packet.specs.Truth.{Grows, Given}
+use Rattle.protocol.proofs.Leading.{IsRun, IsBaseRun, IsBaseStep}
 use Rattle.protocol.specs.Stages.{Stage, ToStage, packet, request, order, Done, knows, behind}
 use Rattle.protocol.specs.StageSteps.{step, quiet, takes, packet_taken, order_taken, goes, looks, look_all, look, asks, answered, caps, cap_kept, shrink, oldest_goes, first_goes, excess}
 use Rattle.protocol.proofs.EdgeLaws.{AreRunsOf}

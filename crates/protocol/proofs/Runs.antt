@@ -14,7 +14,8 @@ use Rattle.packet.specs.Keys.{Keys, open_at}
 use Rattle.partial.specs.States.{is_filled}
 use Rattle.packet.specs.Marks.{come, complete, partly}
 use Rattle.packet.specs.Named.{for_each, named}
-use Rattle.packet.specs.Truth.{IsRun, Grows, Leads, IsStep}
+use Rattle.packet.specs.Truth.{Grows}
+use Rattle.protocol.proofs.Leading.{IsRun, Leads, IsStep}
 use Rattle.protocol.specs.Stages.{Stage, ToStage, packet, request, order, Done, knows, of_stage_key, behind, keys_for}
 use Rattle.protocol.specs.StageSteps.{step, next, quiet, put, append_each, takes, packet_taken, unknown, order_taken, goes, notice, moved, with_marker, with_piece, looks, look_all, look, asks, answered, caps, cap_kept, shrink, oldest_goes, first_goes, excess}
 use Rattle.model.proofs.Prefixes.{prefix_self}

@@ -3,7 +3,8 @@ use Rattle.std.proofs.Common.{true, ◌≡◌, ℕ, List, [], ◌∷◌, ◌++�
 use Rattle.row.specs.Cells.{text, Cells}
 use Rattle.row.specs.declared.refused.Refused.TheVariants.{Duplicate, Absent, UnknownPlace}
 use Rattle.plan.specs.Layouts.{Layout}
-use Rattle.plan.specs.Recipes.{votes_counted, stories, votes, side, view, clicks_summed}
+use Rattle.plan.specs.Recipes.{side, view}
+use Rattle.plan.proofs.SamplePlans.{votes_counted, stories, votes, clicks_summed}
 use Rattle.plan.specs.declared.domain.DomainId.TheVariants as domain
 use Rattle.model.specs.Places.{base_at}
 use Rattle.plan.specs.declared.kinds.Aggregate.TheVariants.{Count}

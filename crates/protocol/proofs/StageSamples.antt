@@ -3,7 +3,8 @@ use Rattle.std.proofs.Common.{◌≡◌, ℕ, List, [], ◌∷◌, ◌++◌, map
 use Rattle.row.specs.Cells.{Datum, Cells}
 use Rattle.row.specs.declared.record.Record.{Record}
 use Rattle.plan.specs.Layouts.{Layout}
-use Rattle.plan.specs.Recipes.{votes_small, side, view, table, number}
+use Rattle.plan.specs.Recipes.{side, view, table, number}
+use Rattle.plan.proofs.SamplePlans.{votes_small}
 use Rattle.plan.specs.declared.kinds.Op.TheVariants as op
 use Rattle.model.specs.Logs.{Change, inserts, deletes, updates}
 use Rattle.model.specs.Queries.{Line}

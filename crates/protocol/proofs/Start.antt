@@ -11,7 +11,8 @@ use Rattle.model.specs.Histories.{Lengths, len_at}
 use Rattle.model.proofs.Growth.{at_most_none}
 use mathlib.Core.List.{IsPrefix}
 use Rattle.packet.specs.Readers.{Reader, readers}
-use Rattle.packet.specs.Truth.{IsRun, Pointwise, IsBaseRun, Grows}
+use Rattle.packet.specs.Truth.{Pointwise, Grows}
+use Rattle.protocol.proofs.Leading.{IsRun, IsBaseRun}
 use Rattle.protocol.specs.Bases.{Base}
 use Rattle.protocol.specs.Stages.{Stage}
 use Rattle.protocol.specs.Views.{View}

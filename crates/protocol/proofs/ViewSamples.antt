@@ -2,15 +2,17 @@
 use Rattle.std.proofs.Common.{◌≡◌, ℕ, List, [], ◌∷◌, refl, Option, Some, None}
 use Rattle.row.specs.Cells.{Datum}
 use Rattle.plan.specs.Layouts.{Layout}
-use Rattle.plan.specs.Recipes.{votes_small, view}
+use Rattle.plan.specs.Recipes.{view}
+use Rattle.plan.proofs.SamplePlans.{votes_small}
 use Rattle.model.specs.Logs.{inserts}
 use Rattle.model.specs.Queries.{Line}
 use Rattle.model.proofs.Samples.{n}
 use Rattle.partial.specs.States.{Hole, Waiting, Filled}
 use Rattle.packet.specs.Messages.{Ask, Mark}
 use Rattle.packet.specs.Keys.{Stand, no_keys}
+use Rattle.protocol.specs.Bases.{last_number}
 use Rattle.protocol.specs.Views.{View, ToView, packet, want, order, Done}
-use Rattle.protocol.specs.ViewSteps.{step, counted, most}
+use Rattle.protocol.specs.ViewSteps.{step, counted}
 use Rattle.std.proofs.Common.{codes, map}
 use Rattle.std.specs.Prelude.{⊤}
 
@@ -114,7 +116,7 @@ pub first_filled_goes : map (λ (d : Done). d.view.keys.order) (runs (fresh one_
 first_filled_goes = refl
 
 -- the count stays at the greatest number
-pub count_stays : counted most 1 ≡ most
+pub count_stays : counted last_number 1 ≡ last_number
 count_stays = refl
 
 -- ---- packets and markers

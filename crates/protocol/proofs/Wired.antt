@@ -11,7 +11,8 @@ use Rattle.model.specs.Histories.{Item, Author, Lengths, IsSame, log_of, authors
 use Rattle.model.specs.Cuts.{IsAtMost}
 use Rattle.model.specs.Legal.{IsLegal, most_sessions}
 use Rattle.packet.specs.Readers.{Reader, readers}
-use Rattle.packet.specs.Truth.{Pointwise, Grows, IsFrontOf, IsRun, IsBaseRun}
+use Rattle.packet.specs.Truth.{Pointwise, Grows, IsFrontOf}
+use Rattle.protocol.proofs.Leading.{IsRun, IsBaseRun}
 use Rattle.protocol.specs.Bases.{Base}
 use Rattle.protocol.specs.Stages.{Stage}
 use Rattle.protocol.specs.Views.{View}

@@ -2,7 +2,7 @@
 use Rattle.std.proofs.Common.{true, false, ◌≡◌, ℕ, List, [], ◌∷◌, ◌++◌, refl, Some, None}
 use Rattle.row.specs.Cells.{Cells}
 use Rattle.row.specs.declared.refused.Refused.TheVariants.{Stopped, Behind, UnknownPlace}
-use Rattle.plan.specs.Recipes.{votes_small}
+use Rattle.plan.proofs.SamplePlans.{votes_small}
 use Rattle.model.specs.Logs.{inserts}
 use Rattle.model.specs.Histories.{Lengths}
 use Rattle.protocol.specs.Worlds.{start}

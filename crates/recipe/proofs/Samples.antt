@@ -2,7 +2,8 @@
 use Rattle.std.proofs.Common.{◌≡◌, ℕ, List, [], ◌∷◌, ◌++◌, map, codes, Result, Ok, Err, refl}
 use Rattle.toml.proofs.OnLiterals.{toml_on_literals}
 use Rattle.plan.specs.Layouts.{Layout}
-use Rattle.plan.specs.Recipes.{notes_plan, votes_counted, votes_summed, votes_small, pairs_joined, clicks_summed}
+use Rattle.plan.specs.Recipes.{notes_plan}
+use Rattle.plan.proofs.SamplePlans.{votes_counted, votes_summed, votes_small, pairs_joined, clicks_summed}
 use Rattle.recipe.specs.Plans.{plan_at, plan_of}
 
 -- ---- recipes with gaps
