@@ -6,7 +6,7 @@ use Rattle.row.specs.declared.refused.Refused.TheVariants.{Stopped}
 use Rattle.plan.specs.Layouts.{Layout}
 use Rattle.model.specs.Fronts.{LogView}
 use Rattle.model.specs.Histories.{Author}
-use Rattle.model.specs.Refusals.{evict_refusal}
+use Rattle.model.specs.Refusals.{stage_refusal}
 use Rattle.protocol.specs.Events.{Reply, evicted, refused}
 use Rattle.protocol.specs.Stages.{Stage, order}
 use Rattle.protocol.specs.Worlds.{Node, World}
@@ -37,18 +37,18 @@ module _ {F : Type 0} (log : F → LogView) (authors : F → List Author) where
 
   module _ (h : Held F) (k : Datum) (q : Layout) (same : q ≡ h.plan) (p : IsPlaced log authors h) where
     abbrev stage_evicts : Did
-    stage_evicts = evict_stage_in (world_of log authors h) k (evict_refusal h.plan None k)
+    stage_evicts = evict_stage_in (world_of log authors h) k (stage_refusal h.plan k)
 
     -- the key is refused
-    pub stage_refused : (e : Refused) → evict_refusal q None k ≡ Some e → IsDone log authors stage_evicts (refused e) h
+    pub stage_refused : (e : Refused) → stage_refusal q k ≡ Some e → IsDone log authors stage_evicts (refused e) h
     stage_refused e why =
-        subst (λ d. IsDone log authors d (refused e) h) (sym (ap (evict_stage_in (world_of log authors h) k) (subst (λ q. evict_refusal q None k ≡ Some e) same why))) (record { world = refl; reply = refl; placed = p })
+        subst (λ d. IsDone log authors d (refused e) h) (sym (ap (evict_stage_in (world_of log authors h) k) (subst (λ q. stage_refusal q k ≡ Some e) same why))) (record { world = refl; reply = refl; placed = p })
 
-    module _ (s : ℕ) (free : evict_refusal q None k ≡ None) (at : s ≡ shard k q.stages) where
+    module _ (s : ℕ) (free : stage_refusal q k ≡ None) (at : s ≡ shard k q.stages) where
       stage_evicts_is : stage_evicts ≡ stage_order (world_of log authors h) k s (slice_get (map stage_node h.stages) s)
       stage_evicts_is =
           let w = world_of log authors h in
-          ap (evict_stage_in w k) (subst (λ q. evict_refusal q None k ≡ None) same free)
+          ap (evict_stage_in w k) (subst (λ q. stage_refusal q k ≡ None) same free)
           ∙ ap (λ x. stage_order w k x (slice_get (map stage_node h.stages) x)) (sym (subst (λ (q : Layout). s ≡ shard k q.stages) same at))
 
       pub stage_evict_done : (reply : Reply) (new : Held F) → IsDone log authors (stage_order (world_of log authors h) k s (slice_get (map stage_node h.stages) s)) reply new → IsDone log authors stage_evicts reply new

@@ -1,16 +1,16 @@
 -- Answers, places and refusals that the definitions compute, each an equation.
-use Rattle.std.proofs.Common.{◌≡◌, ℕ, suc, List, [], ◌∷◌, length, take, slice_get, refl, codes, Some, None, pos, negsuc}
+use Rattle.std.proofs.Common.{◌≡◌, ℕ, suc, List, [], ◌∷◌, length, take, slice_get, refl, codes, Some, pos, negsuc}
 use Rattle.row.specs.Cells.{Datum, int, text, Cells, shard}
 use Rattle.row.specs.declared.refused.Refused.TheVariants.{UnknownTable, BadRow, Duplicate, Absent, LogFull, UnknownView, BadKey}
 use Rattle.plan.specs.Layouts.{Layout, table_at, table_named, view_named}
-use Rattle.plan.specs.Recipes.{notes_sharded, votes_counted, votes_summed, pairs_joined, clicks_summed}
+use Rattle.plan.proofs.SamplePlans.{notes_sharded, votes_counted, votes_summed, pairs_joined, clicks_summed}
 use Rattle.model.specs.Logs.{Change, inserts, deletes, updates, key_of}
 use Rattle.model.specs.Places.{base_at, table_of, shard_of, sources}
 use Rattle.model.specs.Queries.{answer}
 use Rattle.model.specs.Histories.{Item, write, Lengths, log_of}
 use Rattle.model.specs.Cuts.{fronts_of}
 use Rattle.model.specs.Legal.{limit}
-use Rattle.model.specs.Refusals.{refusal, write_refusal, read_refusal, view_refusal, evict_refusal}
+use Rattle.model.specs.Refusals.{refusal, write_refusal, read_refusal, view_refusal, stage_refusal}
 
 abbrev pub n : ℕ → Datum
 n k = int (pos k)
@@ -201,8 +201,8 @@ vote_absent = refl
 pub no_view_to_ask : view_refusal (view_named votes_counted (codes "nope")) ≡ Some UnknownView
 no_view_to_ask = refl
 
-pub evicted_key : evict_refusal votes_counted None (text (codes "x")) ≡ Some BadKey
+pub evicted_key : stage_refusal votes_counted (text (codes "x")) ≡ Some BadKey
 evicted_key = refl
 
-pub evicted_view : evict_refusal votes_counted (Some (view_named votes_counted (codes "nope"))) (n 7) ≡ Some UnknownView
+pub evicted_view : read_refusal votes_counted (view_named votes_counted (codes "nope")) (n 7) ≡ Some UnknownView
 evicted_view = refl

@@ -46,7 +46,6 @@ abbrev pub view_refusal : Option ℕ → Option Refused
 view_refusal None = Some UnknownView
 view_refusal (Some i) = None
 
--- an eviction order at the stage has a left key, one at a view a key of the view
-abbrev pub evict_refusal : Layout → Option (Option ℕ) → Datum → Option Refused
-evict_refusal p None k = key_refusal p p.left.key k
-evict_refusal p (Some view) k = read_refusal p view k
+-- an order to evict a stage key has a left key; one to evict a key of a view is refused as a read of it
+abbrev pub stage_refusal : Layout → Datum → Option Refused
+stage_refusal p k = key_refusal p p.left.key k

@@ -1,16 +1,17 @@
 -- Every schedule: the replies tell of a legal history.
-use Rattle.std.proofs.Common.{List, [], ◌∷◌, ◌++◌, slice_get, slice_index_or, Some, None, refl, ap, sym, ◌∙◌, subst}
+use Rattle.std.proofs.Common.{List, [], ◌∷◌, ◌++◌, slice_get, slice_index_or, Some, refl, ap, sym, ◌∙◌, subst}
 use Rattle.plan.specs.Layouts.{Layout, view_named}
 use Rattle.model.specs.Histories.{Item}
 use Rattle.model.specs.Legal.{IsLegal, most_sessions}
-use Rattle.model.specs.Refusals.{evict_refusal}
+use Rattle.model.specs.Refusals.{stage_refusal, read_refusal}
 use Rattle.protocol.specs.Worlds.{World, start, Node}
 use Rattle.protocol.specs.Events.{Event, write, try_read, want, fence, count, deliver, evict_stage, evict_view, stop, settle, Reply}
 use Rattle.protocol.specs.Theorem.{Tell, EverySchedule}
 use Rattle.protocol.specs.WorldSteps.{most_rounds, step, delivery, replies}
 use Rattle.protocol.specs.Edges.{wire_of}
 use mathlib.Core.List.{IsPrefix}
-use Rattle.packet.specs.Truth.{IsRun, IsBaseRun, Grows}
+use Rattle.packet.specs.Truth.{Grows}
+use Rattle.protocol.proofs.Leading.{IsRun, IsBaseRun}
 use Rattle.protocol.specs.Stages.{Stage}
 use Rattle.protocol.specs.Views.{View}
 use Rattle.protocol.proofs.Wired.{Good, Led, Three, source_logs, lines_of}
@@ -30,8 +31,8 @@ step_tells w past h (want se view k) g = want_tells w past h se view k g (slice_
 step_tells w past h (fence se) g = fence_tells w past h se (slice_get w.callers se) refl g
 step_tells w past h (count se view) g = count_tells w past h se view g (slice_get w.callers se)
 step_tells w past h (deliver edge) g = deliver_tells w past h g edge (wire_of w.plan edge)
-step_tells w past h (evict_stage k) g = evicts_stage w past h (evict_stage k) (λ se. refl) (λ b. refl) (λ r. refl) refl k g (evict_refusal w.plan None k)
-step_tells w past h (evict_view view k) g = evicts_view w past h (evict_view view k) (λ se. refl) (λ b. refl) (λ r. refl) refl k g (view_named w.plan view) (evict_refusal w.plan (Some (view_named w.plan view)) k)
+step_tells w past h (evict_stage k) g = evicts_stage w past h (evict_stage k) (λ se. refl) (λ b. refl) (λ r. refl) refl k g (stage_refusal w.plan k)
+step_tells w past h (evict_view view k) g = evicts_view w past h (evict_view view k) (λ se. refl) (λ b. refl) (λ r. refl) refl k g (view_named w.plan view) (read_refusal w.plan (view_named w.plan view) k)
 step_tells w past h (stop d) g = stop_tells w past h g d
 step_tells w past h settle g = settle_tells w past h g most_rounds
 

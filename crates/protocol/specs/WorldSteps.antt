@@ -11,7 +11,7 @@ use Rattle.model.specs.Logs.{Change, key_of}
 use Rattle.model.specs.Places.{base_at, table_of, shard_of, sources, source_at}
 use Rattle.model.specs.Queries.{Line, answer}
 use Rattle.model.specs.Histories.{Author, Lengths, view_shard, len_at}
-use Rattle.model.specs.Refusals.{write_refusal, read_refusal, view_refusal, evict_refusal}
+use Rattle.model.specs.Refusals.{write_refusal, read_refusal, view_refusal, stage_refusal}
 use Rattle.partial.specs.States.{is_filled}
 use Rattle.packet.specs.Readers.{readers}
 use Rattle.packet.specs.Messages.{Ask, BasePacketView, Sent, Mark}
@@ -411,8 +411,8 @@ step w (want se view k) = want_by w (slice_get w.callers se) view k
 step w (fence se) = fence_by w se (slice_get w.callers se)
 step w (count se view) = count_by w (slice_get w.callers se) view
 step w (deliver edge) = on_edge w (wire_of w.plan edge)
-step w (evict_stage k) = evict_stage_in w k (evict_refusal w.plan None k)
-step w (evict_view view k) = let i = view_named w.plan view in evict_view_in w i k (evict_refusal w.plan (Some i) k)
+step w (evict_stage k) = evict_stage_in w k (stage_refusal w.plan k)
+step w (evict_view view k) = let i = view_named w.plan view in evict_view_in w i k (read_refusal w.plan i k)
 step w (stop d) = stop_at w d
 step w settle = rounds most_rounds w []
 

@@ -2,7 +2,7 @@
 ghost use Rattle.std.specs.Prelude.{◌≡◌, ◌<◌, true, length, IfOk, IfErr, Some, None};
 ghost use Rattle.row.specs.Cells.{datum_of, shard};
 ghost use Rattle.plan.specs.Layouts.{table_at, table_named, view_named};
-ghost use Rattle.model.specs.{Entries.change_of, Logs.fits, Refusals.evict_refusal, Refusals.misfit, Refusals.read_refusal, Refusals.view_refusal, Refusals.write_refusal};
+ghost use Rattle.model.specs.{Entries.change_of, Logs.fits, Refusals.stage_refusal, Refusals.misfit, Refusals.read_refusal, Refusals.view_refusal, Refusals.write_refusal};
 
 use model::entry::Entry;
 use plan::plan::Plan;
@@ -64,8 +64,8 @@ pub fn read_target(plan: &Plan, view: &str, key: &Value) -> Result<usize, Refuse
 pub fn stage_target(plan: &Plan, key: &Value) -> Result<usize, Refused>
     ensures shard { IfOk result (λ s. s ≡ shard (datum_of key.now) plan.now.stages) }
     ensures there { IfOk result (λ s. s < plan.now.stages) }
-    ensures free { IfOk result (λ s. evict_refusal plan.now None (datum_of key.now) ≡ None) }
-    ensures why { IfErr result (λ e. evict_refusal plan.now None (datum_of key.now) ≡ Some e) }
+    ensures free { IfOk result (λ s. stage_refusal plan.now (datum_of key.now) ≡ None) }
+    ensures why { IfErr result (λ e. stage_refusal plan.now (datum_of key.now) ≡ Some e) }
 {
     plan.keeps_profile();
     let table = plan.table(plan.left().table());
