@@ -179,7 +179,7 @@ impl<J: Naming> Fronts for Front<J> {
         let _len = Front::len(self);
     }
 
-    fn again(&self, alloc: Global) -> Result<Front<J>, AllocError> {
+    fn try_clone(&self, alloc: Global) -> Result<Front<J>, AllocError> {
         Ok(Front::again(self))
     }
 

@@ -52,7 +52,7 @@ pub trait Fronts: Drop {
         ensures { IsLog (log self.now) };
 
     /// A second copy. Errors: memory only, where this kind may refuse.
-    fn again(&self, alloc: Global) -> Result<Self, AllocError>
+    fn try_clone(&self, alloc: Global) -> Result<Self, AllocError>
         ensures same { IfOk result (λ f. (log f ≡ log self.now) × (authors f ≡ authors self.now)) }
         ensures only { OnErr result may_refuse };
 

@@ -145,7 +145,7 @@ impl<'p> Fronts for ListFront<'p> {
         let _len = self.len;
     }
 
-    fn again(&self, alloc: Global) -> Result<ListFront<'p>, AllocError> {
+    fn try_clone(&self, alloc: Global) -> Result<ListFront<'p>, AllocError> {
         self.shared()
     }
 
