@@ -13,13 +13,9 @@ use Rattle.model.specs.Fronts.{LogView, IsLonger}
 use Rattle.packet.specs.Messages.{none_of}
 use Rattle.packet.specs.Answers.{AnswerView}
 use Rattle.packet.specs.Outboxes.{IsClear, OutboxView, packets_on}
-use Rattle.protocol.specs.Bases.{Base, ToBase, write, request, marker, Verdict, accepted, declined, Done}
+use Rattle.protocol.specs.Bases.{last_number, Base, ToBase, write, request, marker, Verdict, accepted, declined, Done}
 use Rattle.base_domain.specs.Codes.{base_of}
 use Rattle.base_domain.specs.Domains.{Domain}
-
--- the greatest number, which no call has
-abbrev pub last_number : ℕ
-last_number = 18446744073709551615
 
 -- the message is for the base shard: of a write the session is one of so many, and the entry fits the table and has the shard; of a request the stage shard is one of the plan
 abbrev pub IsFor : LogView → ℕ → ToBase → Type 0

@@ -1,8 +1,8 @@
 //! A book whose history stands in words that all threads share.
-ghost use Rattle.std.specs.Prelude.{◌≡◌, ◌+◌, ◌<◌, ◌++◌, [], ◌∷◌, IfOk, OnOk, length, map};
+ghost use Rattle.std.specs.Prelude.{◌≡◌, ◌+◌, ◌<◌, ◌≤◌, ◌++◌, [], ◌∷◌, IfOk, OnOk, length, map};
 ghost use Rattle.crossbeam_utils.specs.Padded.{padded_value};
-ghost use Rattle.book.specs.{Pages.opens, Pages.words_of, Pages.word_named, Rights.empty_fronts, Rights.AreFresh};
-ghost use Rattle.model.specs.Places.{base_count};
+ghost use Rattle.book.specs.{Pages.opens, Pages.words_of, Pages.word_named, Rights.empty_fronts, Rights.AreFresh, Words.most_words};
+ghost use Rattle.model.specs.{Legal.most_sessions, Places.base_count};
 ghost use Rattle.packet.specs.Readers.{readers, readers_of};
 
 use crate::law::{Law, LogPage, Naming};
@@ -43,9 +43,10 @@ pub struct Opened {
 }
 
 impl Model for Opened {
-    ghost use Rattle.std.specs.Prelude.{◌≡◌, ◌+◌, ◌<◌, [], ◌∷◌, map};
+    ghost use Rattle.std.specs.Prelude.{◌≡◌, ◌+◌, ◌≤◌, [], ◌∷◌, map};
     ghost use Rattle.crossbeam_utils.specs.Padded.{padded_value};
     ghost use Rattle.book.specs.Pages.{Opened as OpenedView, opens, plan_on, words_of};
+    ghost use Rattle.book.specs.Words.{most_words};
     ghost use Rattle.model.specs.Places.{base_count};
 
     ghost Value = { OpenedView };
@@ -58,7 +59,7 @@ impl Model for Opened {
 
     ghost invariant = { λ o. (map padded_value o.words.items
         ≡ words_of o.seen.book (o.bases + o.sessions)) × (o.bases ≡ base_count (plan_on o.seen.log))
-        × (o.bases + o.sessions < 100)
+        × (o.bases + o.sessions ≤ most_words)
         × (o.seen.log ≡ opens (plan_on o.seen.log) o.sessions ∷ []) };
 }
 
@@ -84,9 +85,10 @@ impl<J: Naming> Drop for Book<J> {
 }
 
 impl<J: Naming> Model for Book<J> {
-    ghost use Rattle.std.specs.Prelude.{◌≡◌, ◌+◌, ◌<◌, ℕ, map};
+    ghost use Rattle.std.specs.Prelude.{◌≡◌, ◌+◌, ◌≤◌, ℕ, map};
     ghost use Rattle.crossbeam_utils.specs.Padded.{padded_value};
     ghost use Rattle.book.specs.Pages.{words_of};
+    ghost use Rattle.book.specs.Words.{most_words};
     ghost use Rattle.model.specs.Places.{base_count};
 
     ghost Value = { ℕ };
@@ -95,7 +97,7 @@ impl<J: Naming> Model for Book<J> {
 
     ghost invariant = { λ b. (map padded_value b.words.items
         ≡ words_of J.book (b.bases + b.sessions)) × (b.bases ≡ base_count J.plan)
-        × (b.bases + b.sessions < 100) × (b.sessions ≡ J.sessions) };
+        × (b.bases + b.sessions ≤ most_words) × (b.sessions ≡ J.sessions) };
 }
 
 /// What a book hands out, once: itself, which all share; what was seen at its start; the right to
@@ -116,10 +118,10 @@ pub struct Rights<J: Naming> {
 }
 
 impl Opened {
-    /// A book of this plan for so many sessions, at most 16. Errors: memory only. Cost: linear in
+    /// A book of this plan for this many sessions, at most 16. Errors: memory only. Cost: linear in
     /// the base shards, the sessions and the shards of all views.
     pub fn new(alloc: Global, plan: &Plan, sessions: usize) -> Result<Opened, AllocError>
-        requires few { sessions < 17 }
+        requires few { sessions ≤ most_sessions }
         ensures { IfOk result (λ o. (o.plan ≡ plan.now) × (o.sessions ≡ sessions)) }
     {
         let bases = base_count(plan);
@@ -257,7 +259,7 @@ impl<J: Naming> Book<J> {
     /// How many base shards there are.
     pub fn bases(&self) -> usize
         ensures bases { result ≡ base_count J.plan }
-        ensures few { base_count J.plan + J.sessions < 100 }
+        ensures few { base_count J.plan + J.sessions ≤ most_words }
     {
         self.bases
     }

@@ -4,7 +4,7 @@ ghost use mathlib.Core.List.{IsPrefix};
 ghost use Rattle.calls.specs.Writes.{IsAnswer, IsTo, Says};
 ghost use Rattle.row.specs.Cells.{shard};
 ghost use Rattle.model.specs.{Entries.change_of, Histories.write, Logs.fits, Logs.key_of, Places.base_count, Places.layout_of, Places.shard_of};
-ghost use Rattle.base_domain.specs.Received.{last_number};
+ghost use Rattle.protocol.specs.Bases.{last_number};
 ghost use Rattle.book.specs.Replies.{IsAfter, IsWhole};
 ghost use Rattle.routes.specs.Mails.{HasFront};
 

@@ -8,6 +8,7 @@ use Rattle.plan.specs.Layouts.{view_at}
 use Rattle.partial.specs.States.{is_hole}
 use Rattle.packet.specs.Messages.{Ask, none_of}
 use Rattle.packet.specs.Keys.{Keys, open_at}
+use Rattle.protocol.specs.Bases.{last_number}
 use Rattle.protocol.specs.Stages.{Stage}
 use Rattle.protocol.specs.StageSteps as on_stage
 use Rattle.protocol.specs.Views.{packet, want, order}
@@ -102,10 +103,10 @@ total_one a (suc n) s xs le lt = by (a == s) refl (λ z. total_one (a + 1) n s x
     by true e rest = let z : a ≡ s = grind (arith, nat_tests) in omega (arith, total_past (a + 1) n s xs (omega (arith, z)))
     by false e rest = let z : a + 1 ≤ s = grind (arith, nat_tests) in omega (arith, rest z)
 
-counts_none : (a n : ℕ) → n ≡ 0 → a ≤ on_view.most → a ≡ on_view.counted a n
-counts_none a n e le = by (nat_le (a + n) on_view.most) refl
+counts_none : (a n : ℕ) → n ≡ 0 → a ≤ last_number → a ≡ on_view.counted a n
+counts_none a n e le = by (nat_le (a + n) last_number) refl
   where
-    by : (b : Bool) → nat_le (a + n) on_view.most ≡ b → a ≡ cond b (a + n) on_view.most
+    by : (b : Bool) → nat_le (a + n) last_number ≡ b → a ≡ cond b (a + n) last_number
     by true t = omega (arith, e)
     by false t = absurd (grind (arith, nat_tests))
 

@@ -6,6 +6,10 @@ use Rattle.model.specs.Logs.{Change}
 use Rattle.model.specs.Histories.{Author, last_or}
 use Rattle.packet.specs.Messages.{Ask, BasePacketView, Mark}
 
+-- the greatest number of 64 bits, which no call has
+abbrev pub last_number : ℕ
+last_number = 18446744073709551615
+
 -- its number, the entries of its log, and the author of each
 pub record Base : Type 0 where
   pub plan : Layout

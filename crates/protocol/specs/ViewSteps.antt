@@ -8,6 +8,7 @@ use Rattle.packet.specs.Readers.{tag_of}
 use Rattle.packet.specs.Messages.{Ask, Sent, Mark, none_of, to_all, to_one}
 use Rattle.packet.specs.Keys.{Keys, begin_at, give_at, open_at, drop_at, has_piece}
 use Rattle.packet.specs.Marks.{Gathering, come, complete, partly}
+use Rattle.protocol.specs.Bases.{last_number}
 use Rattle.protocol.specs.Views.{View, ToView, packet, want, order, Done}
 
 -- ---- keys
@@ -44,13 +45,9 @@ capped cap keys = shrink (length keys.order - cap) keys
 abbrev pub ask : View → Datum → Ask
 ask v k = record { tag = tag_of v.view; key = k }
 
--- the greatest count
-abbrev pub most : ℕ
-most = 18446744073709551615
-
 -- so many more requests; the count stays at the greatest number
 abbrev pub counted : ℕ → ℕ → ℕ
-counted asked more = cond (nat_le (asked + more) most) (asked + more) most
+counted asked more = cond (nat_le (asked + more) last_number) (asked + more) last_number
 
 -- ---- one message
 -- with these keys, and nothing is put out

@@ -1,7 +1,7 @@
 //! What the threads of a store share, and the ways between them.
-ghost use Rattle.std.specs.Prelude.{◌≡◌, ◌⊎◌, ◌<◌, IfErr, map};
+ghost use Rattle.std.specs.Prelude.{◌≡◌, ◌⊎◌, ◌<◌, ◌≤◌, IfErr, map};
 ghost use Rattle.row.specs.Bags.{Each};
-ghost use Rattle.model.specs.Places.{base_count, sources};
+ghost use Rattle.model.specs.{Legal.most_sessions, Places.base_count, Places.sources};
 ghost use Rattle.packet.specs.Readers.{readers};
 ghost use Rattle.schedule.specs.Codes.{reader_in};
 
@@ -139,7 +139,7 @@ impl<J: Naming> Model for Routes<J> {
 }
 
 impl<J: Naming> Routes<J> {
-    /// The ways of a store of this plan for so many sessions, on which nothing is. Errors: memory
+    /// The ways of a store of this plan for this many sessions, on which nothing is. Errors: memory
     /// only.
     pub fn new(
         alloc: Global,
@@ -148,7 +148,7 @@ impl<J: Naming> Routes<J> {
         sessions: usize,
     ) -> Result<Routes<J>, AllocError>
         requires plan { plan ≡ J.plan }
-        requires sessions { sessions < 17 }
+        requires sessions { sessions ≤ most_sessions }
     {
         let sources = places::sources(alloc, &plan)?;
         let readers = readers::readers(alloc, &plan)?;

@@ -1,5 +1,6 @@
 //! Starts the store of a plan, and plays scripts in its sessions.
-ghost use Rattle.std.specs.Prelude.{◌≡◌, ◌<◌, IfOk};
+ghost use Rattle.std.specs.Prelude.{◌≡◌, ◌≤◌, IfOk};
+ghost use Rattle.model.specs.Legal.{most_sessions};
 
 use crate::answers::answer;
 use crate::race::race;
@@ -48,7 +49,7 @@ pub fn start<R: Threads + Wait + Copy + Drop + Send + 'static, O: Write>(
 
 // How many sessions it takes.
 fn sessions_of(play: &Play) -> Result<usize, Refused>
-    ensures { IfOk result (λ n. n < 17) }
+    ensures { IfOk result (λ n. n ≤ most_sessions) }
 {
     match play {
         Play::Run(_) => Ok(1),
@@ -73,7 +74,7 @@ fn start_named<
     requires book { opened.book ≡ J.book }
     requires plan { (opened.plan ≡ J.plan) × (plan ≡ J.plan) }
     requires sessions { (opened.sessions ≡ J.sessions) × (sessions ≡ J.sessions) }
-    requires few { sessions < 17 }
+    requires few { sessions ≤ most_sessions }
 {
     let mut system = System::<J>::start(rt, alloc, opened, plan, sessions, OpenGate)?;
     let played = play_buffered(rt, alloc, &mut system, play, out);

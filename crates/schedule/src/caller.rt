@@ -3,7 +3,7 @@ ghost use Rattle.std.specs.Prelude.{◌≡◌, ◌<◌, suc, [], map, replicate,
 ghost use Rattle.std.specs.List.{list_all};
 ghost use Rattle.std.specs.Option.{is_some};
 ghost use Rattle.packet.specs.Readers.{readers};
-ghost use Rattle.protocol.specs.{Worlds.first_caller, WorldSteps.open_fence};
+ghost use Rattle.protocol.specs.{Bases.last_number, Worlds.first_caller, WorldSteps.open_fence};
 ghost use Rattle.schedule.specs.{Codes.reply_of, Sessions.acknowledged, Sessions.over, Sessions.told};
 
 use crate::cuts::{are_covered, raise};
@@ -93,7 +93,7 @@ impl Model for Caller {
 }
 
 impl Caller {
-    /// One that has not called, in a store of so many base shards. Errors: memory only.
+    /// One that has not called, in a store of this many base shards. Errors: memory only.
     pub fn new(alloc: Global, places: &Places, bases: usize) -> Result<Caller, AllocError>
         ensures { IfOk result (λ c. c ≡ record {
           is = first_caller places.now;
@@ -119,7 +119,7 @@ impl Caller {
     /// are spent, and then nothing changes.
     pub fn take_number(&mut self) -> Result<u64, Refused>
         ensures number { IfOk result (λ n. n ≡ self.old.is.number) }
-        ensures small { IfOk result (λ n. n < 18446744073709551615) }
+        ensures small { IfOk result (λ n. n < last_number) }
         ensures next { OnOk result (self.new ≡ record self.old {
           is = record self.old.is { number = suc self.old.is.number };
         }) }
@@ -136,7 +136,7 @@ impl Caller {
 
     /// An entry of the session stands at this index of a base shard's log.
     pub fn wrote(&mut self, base: usize, index: u64)
-        requires { index < 18446744073709551615 }
+        requires { index < last_number }
         ensures { self.new ≡ record self.old { own = slice_set self.old.own base (suc index) } }
     {
         if base < self.own.len() {

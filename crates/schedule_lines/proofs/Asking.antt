@@ -11,7 +11,7 @@ use Rattle.script.proofs.Numbers.{read_once}
 use Rattle.std.proofs.lemmas.Fmt.{decimal_by_steps, decimal_injective}
 use Rattle.script.specs.Commands as script
 use Rattle.script.proofs.Reading.{IsApart}
-use Rattle.schedule_lines.specs.Asks.{Ask, insert, update, delete, try, want, fence, count, deliver, evict_stage, evict_view, stop, settle, IsSession, Calls, IsCall, IsOrder, IsWant, Asks}
+use Rattle.schedule_lines.specs.Asks.{Ask, insert, update, delete, try, want, fence, count, deliver, evict_stage, evict_view, stop, settle, IsSession, Calls, IsCall, IsOrder, IsWant, Asks, session_limit}
 
 -- the first byte of a word
 abbrev first_byte : List ℕ → ℕ
@@ -67,13 +67,13 @@ session_once word m n a b = decimal_injective m n (omega (arith, a.0)) (omega (a
 prints : (word : List ℕ) (n : ℕ) → IsSession word n → Prints word (pos n)
 prints word n is = let low : n < 4294967296 = is.0 in (grind (arith, ints), is.1)
 
-session_none : (word : List ℕ) (number : ℤ) → Prints word number → ((n : ℕ) → n < 4294967296 → number ≢ pos n) → (n : ℕ) → ¬ IsSession word n
+session_none : (word : List ℕ) (number : ℤ) → Prints word number → ((n : ℕ) → n < session_limit → number ≢ pos n) → (n : ℕ) → ¬ IsSession word n
 session_none word number is never n = λ session.
     let same : int number ≡ int (pos n) = read_once kind.Int word (int number) (int (pos n)) is (prints word n session) in
     never n session.0 (cc)
 
 -- the session's number that a printed number is
-pub session_found : (word : List ℕ) (number : ℤ) (found : Option ℕ) → Prints word number → MatchOption found ((n : ℕ) → n < 4294967296 → number ≢ pos n) (λ n. (n < 4294967296) × (number ≡ pos n)) → MatchOption found ((n : ℕ) → ¬ IsSession word n) (λ n. IsSession word n)
+pub session_found : (word : List ℕ) (number : ℤ) (found : Option ℕ) → Prints word number → MatchOption found ((n : ℕ) → n < session_limit → number ≢ pos n) (λ n. (n < session_limit) × (number ≡ pos n)) → MatchOption found ((n : ℕ) → ¬ IsSession word n) (λ n. IsSession word n)
 session_found word number None is h = session_none word number is h
 session_found word number (Some n) is h = (h.0, subst (λ z. signed_decimal z ≡ word) h.1 is.1)
 

@@ -48,9 +48,13 @@ ask_of (code.EvictView view key) = evict_view (string_bytes view) (string_bytes 
 ask_of (code.Stop domain) = stop (string_bytes domain)
 ask_of code.Settle = settle
 
--- the word is the number, from 0 to 4294967295, by its decimal digits
+-- the numbers that a schedule may give a session are below it
+abbrev pub session_limit : ℕ
+session_limit = 4294967296
+
+-- the word is the number of a session by its decimal digits
 abbrev pub IsSession : List ℕ → ℕ → Type 0
-IsSession word n = (n < 4294967296) × (decimal n ≡ word)
+IsSession word n = (n < session_limit) × (decimal n ≡ word)
 
 -- the words behind the number of session n: those of a script's insert, update, delete, try, fence or count, or `want VIEW KEY`
 abbrev pub Calls : ℕ → List (List ℕ) → Ask → Type 0

@@ -1,6 +1,6 @@
 //! The events that words ask for.
 ghost use Rattle.std.specs.Prelude.{◌≡◌, ◌≢◌, ◌↔◌, ℕ, pos, ◌<◌, length, map, string_bytes, IsTrue, IfOk, IfSome, IsNone, MatchOption};
-ghost use Rattle.schedule_lines.specs.Asks.{Ask, Asks, Calls, IsOrder, IsSession, IsWant, ask_of, called_by};
+ghost use Rattle.schedule_lines.specs.Asks.{Ask, Asks, Calls, IsOrder, IsSession, IsWant, ask_of, called_by, session_limit};
 
 use script::cell::number_of;
 use script::command::Command;
@@ -85,8 +85,8 @@ fn session_of(alloc: Global, word: &str) -> Result<Option<usize>, AllocError>
 
 /// The number as that of a session, if it is one.
 fn session_in(number: i64) -> Option<usize>
-    ensures { MatchOption result ((n : ℕ) → n < 4294967296 → number ≢ pos n)
-        (λ n. (n < 4294967296) × (number ≡ pos n)) }
+    ensures { MatchOption result ((n : ℕ) → n < session_limit → number ≢ pos n)
+        (λ n. (n < session_limit) × (number ≡ pos n)) }
 {
     if number < 0 || number > LAST {
         return None;

@@ -3,7 +3,7 @@ use Rattle.std.specs.Prelude.{◌≡◌, ℕ, ◌+◌, ◌==◌, Bool, cond, min
 use Rattle.row.specs.declared.refused.Refused.{Refused}
 use Rattle.plan.specs.Layouts.{Layout, view_named}
 use Rattle.model.specs.Refusals.{view_refusal}
-use Rattle.base_domain.specs.Received.{last_number}
+use Rattle.protocol.specs.Bases.{last_number}
 use Rattle.shown.specs.Snapshots.{Snapshot, IsLater}
 use Rattle.sessions.specs.Callers.{Caller}
 use Rattle.sessions.specs.Inserts.{first_of, stolen_refusal}

@@ -4,7 +4,7 @@ ghost use Rattle.row.specs.Bags.{Each};
 ghost use Rattle.book.specs.Fronts.{FrontView};
 ghost use Rattle.sessions.specs.{Sights.IsCovering, Sights.IsCut, Reads.HasLooked};
 ghost use Rattle.model.specs.{Legal.IsLegal, Places.sources, Tables.places_of};
-ghost use Rattle.base_domain.specs.Received.{last_number};
+ghost use Rattle.protocol.specs.Bases.{last_number};
 
 use crate::session::Session;
 use book::cut::Cuts;
@@ -35,8 +35,8 @@ impl<J: Naming> Session<J> {
         ensures spent { stolen_refusal self.old ≡ Some Refused.Stolen
             → (result ≡ Err Refused.Stolen) × (self.new ≡ self.old) }
         ensures fenced { OnOk result (IsFenced J.plan self.old self.new) }
-        ensures refused { IfErr result (λ e. (stolen_refusal self.old ≡ Some e)
-            × (self.new ≡ self.old) ⊎ IsUnfenced J.plan self.old self.new e) }
+        ensures refused { IfErr result (λ e. ((stolen_refusal self.old ≡ Some e)
+            × (self.new ≡ self.old)) ⊎ IsUnfenced J.plan self.old self.new e) }
     {
         let answer = self.fence_sources(rt, alloc);
         self.seen.is_legal();
@@ -47,8 +47,8 @@ impl<J: Naming> Session<J> {
         ensures spent { stolen_refusal self.old ≡ Some Refused.Stolen
             → (result ≡ Err Refused.Stolen) × (self.new ≡ self.old) }
         ensures fenced { OnOk result (IsFenced J.plan self.old self.new) }
-        ensures refused { IfErr result (λ e. (stolen_refusal self.old ≡ Some e)
-            × (self.new ≡ self.old) ⊎ IsUnfenced J.plan self.old self.new e) }
+        ensures refused { IfErr result (λ e. ((stolen_refusal self.old ≡ Some e)
+            × (self.new ≡ self.old)) ⊎ IsUnfenced J.plan self.old self.new e) }
     {
         if self.is_spent() {
             return Err(Refused::Stolen);

@@ -5,7 +5,7 @@ ghost use Rattle.row.specs.Cells.{datum_of};
 ghost use Rattle.plan.specs.Layouts.{view_at};
 ghost use Rattle.shown.specs.Looks.{OnHit as OnShown, OnMiss as OnHidden};
 ghost use Rattle.model.specs.Histories.{view_shard};
-ghost use Rattle.base_domain.specs.Received.{last_number};
+ghost use Rattle.protocol.specs.Bases.{last_number};
 ghost use Rattle.packet.specs.Readers.{readers};
 ghost use Rattle.sessions.specs.Reads.{IsHidden};
 

@@ -7,7 +7,7 @@ ghost use Rattle.row.specs.Cells.{datum_of, shard};
 ghost use Rattle.plan.specs.Layouts.{table_at, table_named};
 ghost use Rattle.model.specs.{Entries.change_of, Histories.floor_at, Legal.IsLegal, Logs.deletes, Logs.fits, Logs.inserts, Logs.key_of, Logs.updates, Places.base_count, Places.layout_of, Places.shard_of, Refusals.write_refusal};
 ghost use Rattle.base.specs.Shards.{HasKey};
-ghost use Rattle.base_domain.specs.Received.{last_number};
+ghost use Rattle.protocol.specs.Bases.{last_number};
 ghost use Rattle.packet.specs.Readers.{readers as readers_of};
 
 use crate::sights::Sights;
@@ -145,8 +145,8 @@ impl<J: Naming> Session<J> {
     /// the base shard's reply.
     ///
     /// Refused with, looked for in this order: `Stolen` where the session's call numbers are
-    /// spent or its word was found moved before, `UnknownTable`, `BadRow` where the row does not fit,
-    /// `Stopped` where the base shard or the store has stopped, `Duplicate` where its key is
+    /// spent or its word was found moved before, `UnknownTable`, `BadRow` where the row does not
+    /// fit, `Stopped` where the base shard or the store has stopped, `Duplicate` where its key is
     /// there, `LogFull`; `NoMemory` at any place after `BadRow`. A refused call leaves the floors
     /// and what was accepted; after `Duplicate` and `LogFull` the session has seen the log that
     /// decided, else what it had. Cost: a look at each table's name, a copy of the row and one of

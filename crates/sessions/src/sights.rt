@@ -124,7 +124,7 @@ impl<J: Naming> Sights<J> {
 }
 
 impl<J: Naming> Sights<J> {
-    ghost use Rattle.base_domain.specs.Received.{last_number};
+    ghost use Rattle.protocol.specs.Bases.{last_number};
     ghost use Rattle.sessions.specs.Counts.{IsAskedAt, asked_of};
 
     // How many requests the shard at a place had sent, where that is asked for, else 0.
@@ -172,7 +172,7 @@ fn reader_at<J: Naming>(routes: &Routes<J>, place: usize) -> Reader
     }
 }
 
-// Whether for each of so many stage shards the cut has no less of each source than the fronts.
+// Whether for each of this many stage shards the cut has no less of each source than the fronts.
 fn has_all<J: Naming>(cut: &Lengths, stages: usize, looked: &[Front<J>]) -> bool
     requires stages { stages ≡ J.plan.stages }
     ensures { IsTrue result → HasAll J.plan looked.now cut.now }

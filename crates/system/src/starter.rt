@@ -1,6 +1,7 @@
 //! Starts the domains of a plan, each in a thread of its own.
-ghost use Rattle.std.specs.Prelude.{◌≡◌, ◌<◌, [], IfErr, IfOk, IfSome, Some, map, slice_get};
+ghost use Rattle.std.specs.Prelude.{◌≡◌, ◌<◌, ◌≤◌, [], IfErr, IfOk, IfSome, Some, map, slice_get};
 ghost use Rattle.row.specs.Bags.{Each};
+ghost use Rattle.model.specs.Legal.{most_sessions};
 ghost use Rattle.book.specs.Fronts.{FrontView};
 ghost use Rattle.packet.specs.Readers.{readers};
 ghost use Rattle.sessions.specs.Callers.{reader_of};
@@ -72,7 +73,7 @@ impl<
         requires copies { copies.items ≡ readers J.plan }
         requires empty { Each (λ (f : FrontView). f.len ≡ 0) logs.items }
         requires sessions { sessions ≡ J.sessions }
-        requires few { sessions < 17 }
+        requires few { sessions ≤ most_sessions }
         ensures readers { IfOk result (λ v. map reader_of v.items ≡ readers J.plan) }
         ensures only { IfErr result (λ e. e ≡ Refused.NoMemory) }
     {
@@ -92,7 +93,7 @@ impl<
         mut copies: Vec<ViewCopy<J>>,
     ) -> Result<Vec<ShownReader<J>>, Refused>
         requires copies { copies.items ≡ readers J.plan }
-        requires few { sessions < 17 }
+        requires few { sessions ≤ most_sessions }
         ensures readers { IfOk result (λ v. map reader_of v.items ≡ readers J.plan) }
         ensures only { IfErr result (λ e. e ≡ Refused.NoMemory) }
     {
@@ -114,7 +115,7 @@ impl<
         copy: ViewCopy<J>,
     ) -> Result<ShownReader<J>, Refused>
         requires copy { slice_get (readers J.plan) reader ≡ Some copy }
-        requires few { sessions < 17 }
+        requires few { sessions ≤ most_sessions }
         ensures reader { IfOk result (λ r. reader_of r ≡ copy) }
         ensures only { IfErr result (λ e. e ≡ Refused.NoMemory) }
     {

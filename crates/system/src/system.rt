@@ -1,6 +1,6 @@
 //! A running store, and the sessions that it gives.
 ghost use Rattle.std.specs.Prelude.{◌≡◌, ◌⊎◌, ◌+◌, ◌<◌, ◌≤◌, ℕ, false, IfErr, IfOk, None, OnErr, OnOk, map, replicate, []};
-ghost use Rattle.model.specs.{Histories.floor_at, Places.base_count};
+ghost use Rattle.model.specs.{Histories.floor_at, Legal.most_sessions, Places.base_count};
 ghost use Rattle.packet.specs.Readers.{readers as readers_of};
 ghost use Rattle.sessions.specs.Callers.{reader_of};
 
@@ -77,7 +77,7 @@ impl<J: Naming + Send + Sync + 'static> System<J> {
         requires book { opened.book ≡ J.book }
         requires plan { (opened.plan ≡ J.plan) × (plan ≡ J.plan) }
         requires sessions { (opened.sessions ≡ J.sessions) × (sessions ≡ J.sessions) }
-        requires few { sessions < 17 }
+        requires few { sessions ≤ most_sessions }
         ensures only { IfErr result (λ e. e ≡ Refused.NoMemory) }
         ensures none { IfOk result (λ s. s ≡ 0) }
     {

@@ -74,7 +74,7 @@ impl Arrivals {
         self.count.fetch_add(1, Ordering::SeqCst);
     }
 
-    // Waits until so many have come, and yields the thread at most so often.
+    // Waits until this many have come, and yields the thread at most this often.
     fn wait_for(&self, count: usize, turns: u32) {
         for _turn in 0..turns {
             if self.count.load(Ordering::SeqCst) >= count {
@@ -85,7 +85,7 @@ impl Arrivals {
         self.missed.store(true, Ordering::SeqCst);
     }
 
-    // Whether so many have come, and none waited in vain.
+    // Whether this many have come, and none waited in vain.
     fn are(&self, count: usize) -> bool {
         self.count.load(Ordering::SeqCst) == count && !self.missed.load(Ordering::SeqCst)
     }

@@ -1,5 +1,6 @@
 //! What each test does with a running system, which is begun in one place.
-ghost use Rattle.std.specs.Prelude.{◌≡◌, ◌<◌};
+ghost use Rattle.std.specs.Prelude.{◌≡◌, ◌≤◌};
+ghost use Rattle.model.specs.Legal.{most_sessions};
 
 use crate::asks::{Running, fail};
 use crate::callers;
@@ -41,7 +42,7 @@ pub fn run_notes<R: Threads + Wait + Copy + Drop + Send + 'static>(
     sessions: usize,
     scene: Scene,
 ) -> Result<(), Fail>
-    requires few { sessions < 17 }
+    requires few { sessions ≤ most_sessions }
 {
     let setup = Setup {
         plan: Plan::built_in(alloc)?,
@@ -52,12 +53,12 @@ pub fn run_notes<R: Threads + Wait + Copy + Drop + Send + 'static>(
     run(rt, alloc, setup)
 }
 
-// Plays the scene with a book for so many sessions. What is answered wrong is a failure.
+// Plays the scene with a book for this many sessions. What is answered wrong is a failure.
 pub fn run<
     R: Threads + Wait + Copy + Drop + Send + 'static,
     G: Gate + Send + Sync + Drop + 'static,
 >(rt: R, alloc: Global, setup: Setup<G>) -> Result<(), Fail>
-    requires few { setup.sessions < 17 }
+    requires few { setup.sessions ≤ most_sessions }
 {
     let opened = Opened::new(alloc, &setup.plan, setup.sessions)?;
     run_named::<Brand, R, G>(rt, alloc, opened, setup)
@@ -71,7 +72,7 @@ fn run_named<
     requires book { opened.book ≡ J.book }
     requires plan { (opened.plan ≡ J.plan) × (setup.plan ≡ J.plan) }
     requires sessions { (opened.sessions ≡ J.sessions) × (setup.sessions ≡ J.sessions) }
-    requires few { setup.sessions < 17 }
+    requires few { setup.sessions ≤ most_sessions }
 {
     let Setup {
         plan,

@@ -9,7 +9,8 @@ use Rattle.model.specs.Histories.{Author}
 use Rattle.model.specs.Refusals.{view_refusal}
 use Rattle.protocol.specs.Events.{asked, refused}
 use Rattle.protocol.specs.Views.{View}
-use Rattle.protocol.specs.ViewSteps.{counted, most}
+use Rattle.protocol.specs.Bases.{last_number}
+use Rattle.protocol.specs.ViewSteps.{counted}
 use Rattle.protocol.specs.Worlds.{Node}
 use Rattle.protocol.specs.WorldSteps.{asked_all, asked_of, count_by, count_in}
 use Rattle.protocol.proofs.Lists.{map_get}
@@ -63,8 +64,8 @@ upto_thrice m a b c = by (nat_le (b + c) m) refl (nat_le (a + b) m) refl
 
 -- ---- the last shard is counted last
 asked_last : (i : ℕ) (ns : List (Node View)) (n : Node View) → asked_all i (ns ++ n ∷ []) ≡ counted (asked_all i ns) (asked_of i n)
-asked_last i [] n = upto_swap most (asked_of i n)
-asked_last i (x ∷ ns) n = ap (counted (asked_of i x)) (asked_last i ns n) ∙ upto_thrice most (asked_of i x) (asked_all i ns) (asked_of i n)
+asked_last i [] n = upto_swap last_number (asked_of i n)
+asked_last i (x ∷ ns) n = ap (counted (asked_of i x)) (asked_last i ns n) ∙ upto_thrice last_number (asked_of i x) (asked_all i ns) (asked_of i n)
 
 pub asked_more : (i : ℕ) (vs : List ViewDomain) (j : ℕ) (d : ViewDomain) (total more : ℕ) → j < length vs → total ≡ asked_all i (map view_node (take j vs)) → more ≡ asked_of i (view_node (slice_index_or vs j d))
     → counted total more ≡ asked_all i (map view_node (take (j + 1) vs))

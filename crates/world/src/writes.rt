@@ -3,7 +3,7 @@ ghost use Rattle.std.specs.Prelude.{◌≡◌, ◌<◌, true, length, map, slice
 ghost use Rattle.row.specs.Cells.{shard};
 ghost use Rattle.model.specs.{Entries.change_of, Logs.fits, Logs.key_of, Places.base_count, Places.layout_of, Places.shard_of, Places.table_of};
 ghost use Rattle.base_domain.specs.Received.{verdict_of as verdict_in};
-ghost use Rattle.protocol.specs.{Events.accepted, WorldSteps.verdict_of, WorldSteps.write_by, WorldSteps.written};
+ghost use Rattle.protocol.specs.{Bases.last_number, Events.accepted, WorldSteps.verdict_of, WorldSteps.write_by, WorldSteps.written};
 ghost use Rattle.schedule.specs.Codes.{reply_of};
 ghost use Rattle.machine.specs.{Held.IsDone, Held.IsPlaced, Held.IsWhole, Held.base_node, Held.world_of, Machines.held};
 ghost use Rattle.world.specs.Noted.{AreLogged, IsSmall, noted};
@@ -65,7 +65,7 @@ fn write_at<F: Fronts>(
     requires placed { IsPlaced F.log F.authors (held machine.old) }
     requires logged { AreLogged (map (base_node F.log F.authors) (held machine.old).bases) }
     requires session { session < length (held machine.old).sessions }
-    requires number { number < 18446744073709551615 }
+    requires number { number < last_number }
     requires range { base < base_count (held machine.old).plan }
     requires fits { fits (layout_of (held machine.old).plan base) (change_of entry.now) ≡ true }
     requires shard { shard_of (held machine.old).plan base

@@ -1,5 +1,5 @@
 use Rattle.std.proofs.Common.{◌<◌}
-use Rattle.base_domain.specs.Received.{last_number}
+use Rattle.protocol.specs.Bases.{last_number}
 use Rattle.sessions.specs.Reads.{HasLooked}
 use Rattle.sessions.proofs.session.Session.read_by_turns.Given as goal
 

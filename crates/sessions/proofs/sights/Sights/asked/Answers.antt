@@ -1,5 +1,5 @@
 use Rattle.std.proofs.Common.{min, take, refl, ap, sym, ◌∙◌}
-use Rattle.base_domain.specs.Received.{last_number}
+use Rattle.protocol.specs.Bases.{last_number}
 use Rattle.schedule.specs.Codes.{reader_in}
 use Rattle.sessions.specs.Counts.{asked_of}
 use Rattle.sessions.proofs.Counts.{asked_next, capped_more}

@@ -1,6 +1,6 @@
 use Rattle.std.proofs.Common.{◌≡◌, map, min, take}
 use Rattle.packet.specs.Readers.{readers}
-use Rattle.base_domain.specs.Received.{last_number}
+use Rattle.protocol.specs.Bases.{last_number}
 use Rattle.sessions.specs.Callers.{AreLater, reader_of}
 use Rattle.sessions.specs.Counts.{asked_of}
 use Rattle.sessions.proofs.sights.Sights.asked.Given as goal
