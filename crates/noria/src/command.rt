@@ -39,6 +39,13 @@ pub fn command<
         let _ = writeln!(err, "{USAGE}");
         return 2;
     };
+    status_of(ran, err)
+}
+
+// The status of what was run, or is refused: then the refusal goes to `err`.
+fn status_of<E: Write>(ran: Result<(), Fault>, err: &mut E) -> u8
+    ensures { result ≤ 1 }
+{
     match ran {
         Ok(()) => 0,
         Err(fault) => {
