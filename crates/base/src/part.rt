@@ -4,7 +4,7 @@ ghost use Rattle.base.specs.Parts.{is_in};
 
 use row::row::Row;
 
-/// The rows whose cell in the column has the shard, of so many shards. A stage shard's part of a
+/// The rows whose cell in the column has the shard, of that count of them. A stage shard's part of a
 /// base shard is that of the stage key's column.
 #[derive(Clone, Copy, Debug, PartialEq, Eq)]
 pub struct Part {

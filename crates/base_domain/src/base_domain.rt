@@ -66,7 +66,7 @@ impl<'p, F: Fronts> Model for BaseDomain<'p, F> {
 
 impl<'p, F: Fronts> BaseDomain<'p, F> {
     /// The domain of a shard of a table, which takes the right to the shard's log while that is
-    /// empty, for so many sessions. Errors: memory only.
+    /// empty, for this many sessions. Errors: memory only.
     pub fn new(
         alloc: Global,
         plan: &'p Plan,

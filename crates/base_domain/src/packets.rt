@@ -141,8 +141,8 @@ impl<F: Fronts> StageParts<F> {
         Ok(StageParts { records, room })
     }
 
-    /// The packet of each part, from so many entries on to the front of the right. Errors: memory,
-    /// and only for a front, where its kind may refuse.
+    /// The packet of each part, from this many entries on to the front of the right. Errors:
+    /// memory, and only for a front, where its kind may refuse.
     pub(crate) fn packets(
         self,
         right: &F::Right,

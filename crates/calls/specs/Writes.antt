@@ -20,7 +20,7 @@ pub record IsDecidedIn (p : Layout) (seen : List Item) (s m b : ℕ) (e : Change
 
 -- nothing was decided, and nothing more was seen; or the log decided
 abbrev pub IsAnswer : Layout → List Item → ℕ → ℕ → ℕ → Change → Refused → List Item → Type 0
-IsAnswer p seen s m b e r now = ((r ≡ NoMemory) ⊎ (r ≡ Stopped)) × (now ≡ seen) ⊎ IsDecidedIn p seen s m b e r now
+IsAnswer p seen s m b e r now = (((r ≡ NoMemory) ⊎ (r ≡ Stopped)) × (now ≡ seen)) ⊎ IsDecidedIn p seen s m b e r now
 
 -- the answer is to this call
 pub record IsTo {F : Type 0} (s m : ℕ) (e : Change) (a : AnswerView F) : Type 0 where

@@ -1,10 +1,12 @@
 //! What domains are made of before their first message.
-ghost use Rattle.std.specs.Prelude.{◌≡◌, ◌<◌, length, replicate, IfOk};
+ghost use Rattle.std.specs.Prelude.{◌≡◌, ◌<◌, length, IfOk};
 ghost use Rattle.model.specs.Places.{base_count, sources as sources_of};
 ghost use Rattle.row.specs.Bags.{Each};
 ghost use Rattle.shown.specs.Snapshots.{first_of};
 ghost use Rattle.stage_domain.specs.Domains.{IsNew};
-ghost use Rattle.domain_turns.specs.{Fresh.empty_line, Fresh.fresh_base, Fresh.fresh_view, ViewTurns.Shows};
+ghost use Rattle.packet.specs.Lines.{empty_line};
+ghost use Rattle.view_domain.specs.Domains.{new_view};
+ghost use Rattle.domain_turns.specs.{Fresh.fresh_base, ViewTurns.Shows};
 
 use base_domain::base_domain::BaseDomain;
 use book::front::Front;
@@ -19,8 +21,8 @@ use stage_domain::stage_domain::StageDomain;
 use std::alloc::{AllocError, Global};
 use view_domain::view_domain::ViewDomain;
 
-/// The domain of the base shard whose right to append this is, while its log is empty, for so many
-/// sessions. Errors: memory only; the right is then gone. Cost: linear in the sessions.
+/// The domain of the base shard whose right to append this is, while its log is empty, for this
+/// many sessions. Errors: memory only; the right is then gone. Cost: linear in the sessions.
 pub fn fresh_base<'p, J: Naming>(
     alloc: Global,
     plan: &'p Plan,
@@ -63,12 +65,12 @@ pub fn fresh_view<'p, J: Naming>(
     shard: usize,
 ) -> Result<ViewDomain<'p, Front<J>>, AllocError>
     requires view { view < length J.plan.views }
-    ensures fresh { IfOk result (λ d. d ≡ fresh_view J.plan view shard) }
+    ensures fresh { IfOk result (λ d. d ≡ new_view J.plan record { view = view; shard = shard }) }
     ensures shows { IfOk result (λ d. Shows d (first_of J.plan view shard)) }
 {
     let line = empty_line(alloc, part, routes.sources())?;
     let plan = routes.plan();
-    let cut = empty_cut(alloc, plan.stages(), &line)?;
+    let cut = line.copies(alloc, plan.stages())?;
     ViewDomain::new(alloc, plan, view, shard, cut)
 }
 
@@ -87,19 +89,4 @@ fn empty_line<J: Naming>(
         fronts.push(part.front(*base))?;
     }
     Ok(Line::new(fronts))
-}
-
-// The same line for so many stage shards. Errors: memory only.
-fn empty_cut<J: Naming>(
-    alloc: Global,
-    stages: usize,
-    line: &Line<Front<J>>,
-) -> Result<Vec<Line<Front<J>>>, AllocError>
-    ensures { IfOk result (λ v. v.items ≡ replicate stages line.now) }
-{
-    let mut cut = Vec::new(alloc);
-    for _ in 0..stages {
-        cut.push(line.try_clone(alloc)?)?;
-    }
-    Ok(cut)
 }

@@ -35,7 +35,7 @@ impl Model for Waits {
 }
 
 impl Waits {
-    /// Places of so many sessions, none of which waits. Errors: memory only.
+    /// Places of this many sessions, none of which waits. Errors: memory only.
     pub fn new(alloc: Global, sessions: usize) -> Result<Waits, AllocError>
         ensures { IfOk result (λ w. w ≡ replicate sessions None) }
     {

@@ -79,7 +79,7 @@ impl<T: Drop> Model for Inbox<T> {
 }
 
 impl<T: Drop> Inbox<T> {
-    /// An open inbox with no message, of so many edges. Errors: memory only. Cost: linear in the
+    /// An open inbox with no message, of this many edges. Errors: memory only. Cost: linear in the
     /// edges.
     pub fn new(alloc: Global, edges: usize) -> Result<Inbox<T>, AllocError>
         ensures { IfOk result (λ i. i ≡ edges) }

@@ -18,7 +18,7 @@ pub struct Queues<T: Drop> {
 }
 
 impl<T: Drop> Queues<T> {
-    /// Empty queues of so many edges. Errors: memory only. Cost: linear in the edges.
+    /// Empty queues of this many edges. Errors: memory only. Cost: linear in the edges.
     pub fn new(alloc: Global, edges: usize) -> Result<Queues<T>, AllocError>
         ensures { IfOk result (λ q. q ≡ replicate edges []) }
     {

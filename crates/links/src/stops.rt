@@ -22,7 +22,7 @@ impl Model for Stops {
 }
 
 impl Stops {
-    /// Flags of so many domains, none of which has stopped. Errors: memory only. Cost: linear in
+    /// Flags of this many domains, none of which has stopped. Errors: memory only. Cost: linear in
     /// the domains.
     pub fn new(alloc: Global, domains: usize) -> Result<Stops, AllocError>
         ensures { IfOk result (λ s. s ≡ domains) }

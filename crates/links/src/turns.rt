@@ -28,8 +28,8 @@ impl<T: Drop> Model for Turns<T> {
 }
 
 impl<T: Drop> Turns<T> {
-    /// No message of so many edges, before the first turn. Errors: memory only. Cost: linear in the
-    /// edges.
+    /// No message of this many edges, before the first turn. Errors: memory only. Cost: linear in
+    /// the edges.
     pub fn new(alloc: Global, edges: usize) -> Result<Turns<T>, AllocError>
         ensures { IfOk result (λ t. t ≡ record {
           waiting = replicate edges [];

@@ -27,6 +27,7 @@ use Rattle.stage_steps.specs.Shards.{IsFrom}
 use Rattle.machine.specs.Held.{AreQueued}
 use Rattle.machine.specs.Turned.{IsBaseTurn}
 use Rattle.machine.proofs.Queued.{queued_pushed}
+use Rattle.row.proofs.BagLemmas.{Each-weaker}
 
 abbrev node : Base → Bool → Node Base
 node x b = record { is = x; runs = b }
@@ -85,15 +86,11 @@ from_source b j at s k is =
       base = is.base ∙ (sym (same_is f.it b.base f.passes) ∙ sym (or_of (sources b.plan) j f.it 0 f.at));
     }
 
-each_as : {X : Type 0} (P Q : X → Type 0) → ((x : X) → P x → Q x) → (xs : List X) → Each P xs → Each Q xs
-each_as P Q f [] h = tt
-each_as P Q f (x ∷ xs) h = (f x h.0, each_as P Q f xs h.1)
-
 queued_from : (b : Base) (m : ToBase) (o : Option ℕ) → source_place b.plan b.base ≡ o → (q : List (List (List BasePacketView))) → AreQueued (IsFrom b.plan) q → AreQueued (IsFrom b.plan) (base_sent o (step b m).sent q)
 queued_from b m None at q h = h
 queued_from b m (Some j) at q h =
     queued_pushed (IsFrom b.plan) j (step b m).sent q h
-    (λ s. each_as (IsOf b s) (λ k. IsFrom b.plan s j k) (from_source b j at s) (slice_index_or (step b m).sent s []) (sent_from b m s))
+    (λ s. Each-weaker (IsOf b s) (λ k. IsFrom b.plan s j k) (from_source b j at s) (slice_index_or (step b m).sent s []) (sent_from b m s))
 
 -- ---- the turn
 module _ {F : Type 0} (log : F → LogView) (authors : F → List Author) where

@@ -25,6 +25,7 @@ use Rattle.view_domain.specs.Domains.{Domain as ViewDomain}
 use Rattle.machine.specs.Held.{Held, IsPlaced, IsWhole, IsStageOf, IsViewOf, AgreeingAreOne, world_of, stage_node, runs}
 use Rattle.machine.proofs.Queued.{first_queued, map_or}
 use Rattle.machine.proofs.StageTurns.{reader}
+use Rattle.protocol.proofs.Within.{not_past}
 
 pub there_at : {X : Type 0} (xs : List X) (i : ℕ) (d : X) → i < length xs → slice_get xs i ≡ Some (slice_index_or xs i d)
 there_at [] i d lt = absurd (omega (arith, lt))
@@ -38,11 +39,6 @@ pub set_or : {X : Type 0} (xs : List X) (i : ℕ) (x d : X) → i < length xs �
 set_or [] i x d lt = absurd (omega (arith, lt))
 set_or (y ∷ xs) zero x d lt = refl
 set_or (y ∷ xs) (suc i) x d lt = set_or xs i x d (omega (arith, lt))
-
-below : {X : Type 0} (xs : List X) (i : ℕ) (x : X) → slice_get xs i ≡ Some x → i < length xs
-below [] i x at = cc
-below (y ∷ xs) zero x at = omega (arith)
-below (y ∷ xs) (suc i) x at = let h = below xs i x at in omega (arith, h)
 
 pub stands : {X : Type 0} (xs : List X) (i : ℕ) → i < length xs → (x : X) × (slice_get xs i ≡ Some x)
 stands [] i lt = absurd (omega (arith, lt))
@@ -92,7 +88,7 @@ front_is line j from at = sym (map_or (λ (l : LogView). l.entries) line j no_lo
 
 module _ {F : Type 0} (log : F → LogView) (authors : F → List Author) where
   pub reader_there : (h : Held F) (r : ℕ) (x : Reader) → IsPlaced log authors h → slice_get (readers h.plan) r ≡ Some x → r < length h.views
-  reader_there h r x p at = subst (λ n. r < n) (sym p.views.size) (below (readers h.plan) r x at)
+  reader_there h r x p at = subst (λ n. r < n) (sym p.views.size) (not_past (readers h.plan) r x at)
 
   pub next_packet : (h : Held F) (s j : ℕ) (d : StageDomain) (k : BasePacketView) (ks : List BasePacketView) → IsWhole log authors h → slice_get h.stages s ≡ Some d → d.mode ≡ mode.Running → queue h.to_stage s j ≡ k ∷ ks → IsNext (stage_of d) j k
   next_packet h s j d k ks w at running q = (every_turn (world_of log authors h) w.reached).0 s j (stage_node d) k ks (map_get stage_node h.stages s d at) (ap runs running) q

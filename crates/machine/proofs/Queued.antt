@@ -5,9 +5,9 @@ use Rattle.row.specs.Bags.{Each}
 use Rattle.protocol.specs.Edges.{pushed, queue, with_queue}
 use Rattle.protocol.specs.Worlds.{no_queues}
 use Rattle.protocol.proofs.Lists.{map_set}
-use Rattle.protocol.proofs.Spots.{each_append}
 use Rattle.schedule.specs.Taken.{IsTaken}
 use Rattle.machine.specs.Held.{AreQueued}
+use Rattle.plan.proofs.OwnTexts.{each_join}
 
 -- ---- one place changes
 -- what holds of each place holds after one is set to what it holds of
@@ -40,7 +40,7 @@ pub queued_pushed : {X : Type 0} (Is : ℕ → ℕ → X → Type 0) (i : ℕ) (
 queued_pushed Is i [] q h p r j = h r j
 queued_pushed Is i (xs ∷ xss) [] h p r j = tt
 queued_pushed Is i (xs ∷ xss) (inbox ∷ q) h p zero j =
-    set_holds (λ j ys. Each (Is zero j) ys) [] inbox i (slice_index_or inbox i [] ++ xs) (h zero) (each_append (Is zero i) (slice_index_or inbox i []) xs (h zero i) (p zero)) j
+    set_holds (λ j ys. Each (Is zero j) ys) [] inbox i (slice_index_or inbox i [] ++ xs) (h zero) (each_join (Is zero i) (slice_index_or inbox i []) xs (h zero i) (p zero)) j
 queued_pushed Is i (xs ∷ xss) (inbox ∷ q) h p (suc r) j = queued_pushed (λ r. Is (suc r)) i xss q (λ r. h (suc r)) (λ r. p (suc r)) r j
 
 -- ---- as far as keys go

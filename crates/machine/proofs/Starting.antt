@@ -1,7 +1,7 @@
 -- The world before the first event is the empty one, and all is in its place.
 use Rattle.std.proofs.Common.{Bool, true, not, ◌≡◌, ◌⊎◌, inl, inr, ℕ, zero, suc, ◌+◌, ◌<◌, ◌≤◌, List, [], ◌∷◌, ◌++◌, map, length, length-append, drop, replicate, Option, Some, None, slice_get, slice_index_or, take, refl, ap, sym, ◌∙◌, subst, arith}
 use Rattle.std.specs.List.{range_with_len}
-use Rattle.std.proofs.lemmas.List.{length-map, map-append, map_more, replicate_more, take_all}
+use Rattle.std.proofs.lemmas.List.{length-map, map-append, map_more, take_all}
 use Rattle.std.proofs.lemmas.List.FromFn.{length-map-range_with_len}
 use Rattle.row.specs.Bags.{Each}
 use Rattle.plan.specs.Layouts.{Layout, SideLayout}
@@ -11,27 +11,28 @@ use Rattle.model.specs.Histories.{Author}
 use Rattle.model.specs.Legal.{most_sessions}
 use Rattle.model.specs.Places.{base_count, sources}
 use Rattle.model.specs.Queries.{Line}
-use Rattle.packet.specs.Lines.{AreOf, IsOf, entries_of}
+use Rattle.packet.specs.Lines.{empty_log, empty_line, entries_of}
+use Rattle.packet.proofs.Copies.{map_replicate, replicate_size}
 use Rattle.packet.specs.Messages.{Ask, BasePacketView, StagePacketView}
 use Rattle.packet.specs.Readers.{Reader, readers}
 use Rattle.packet.specs.declared.reader.Reader.{Reader as Code}
-use Rattle.packet.specs.Truth.{Pointwise, sent_of}
+use Rattle.packet.specs.Truth.{sent_of}
 use Rattle.packet.specs.declared.mode.Mode.TheVariants as mode
 use Rattle.protocol.specs.Bases.{Base}
 use Rattle.protocol.specs.Stages.{Stage}
 use Rattle.protocol.specs.Views.{View}
 use Rattle.protocol.specs.Worlds.{Node, start, first_base, first_right, first_stage, first_view, first_line, first_caller, no_queues}
 use Rattle.protocol.specs.WorldSteps.{own_in}
-use Rattle.protocol.proofs.Lists.{each_at, each_map, each_of, map_get}
-use Rattle.protocol.proofs.Within.{sources_small}
+use Rattle.protocol.proofs.Lists.{each_at, map_get}
+use Rattle.protocol.proofs.Within.{sources_small, not_past}
 use Rattle.base_domain.specs.Domains.{Domain as BaseDomain}
 use Rattle.schedule.specs.Codes.{reader_in}
 use Rattle.schedule.specs.Sessions.{Session}
 use Rattle.stage_domain.specs.Domains.{Domain as StageDomain, IsNew as IsNewStage}
-use Rattle.view_domain.specs.Domains.{Domain as ViewDomain, lines_of}
+use Rattle.view_domain.specs.Domains.{Domain as ViewDomain, lines_of, new_view}
 use Rattle.view_domain.proofs.Readers.{readers_there}
 use Rattle.machine.specs.Held.{Held, Are, AreQueued, IsPlaced, IsWhole, IsBaseOf, IsStageOf, IsViewOf, KnowsOwn, world_of, base_node, runs, stage_node, view_node, sent_in}
-use Rattle.machine.specs.Started.{AreFirst, AreNewStages, IsNewBase, first_log, first_logs, new_view, new_views, new_session, new_sessions}
+use Rattle.machine.specs.Started.{AreFirst, AreNewStages, IsNewBase, new_views, new_session, new_sessions}
 use Rattle.std.specs.Option.{option_map}
 use Rattle.packet.specs.Keys.{Keys, no_keys}
 use Rattle.machine.proofs.Meeting.{there_at}
@@ -72,11 +73,6 @@ module _ {X : Type 0} where
   all_taken (y ∷ xs) zero e le = cc
   all_taken (y ∷ xs) (suc n) e le = ap suc (all_taken xs n e (omega (arith, le)))
 
-  pub is_there : (xs : List X) (i : ℕ) (x : X) → slice_get xs i ≡ Some x → i < length xs
-  is_there [] i x at = cc
-  is_there (y ∷ xs) zero x at = omega (arith)
-  is_there (y ∷ xs) (suc i) x at = let r = is_there xs i x at in omega (arith, r)
-
   replicate_get : (n : ℕ) (x : X) (i : ℕ) (y : X) → slice_get (replicate n x) i ≡ Some y → y ≡ x
   replicate_get zero x i y at = cc
   replicate_get (suc n) x zero y at = cc
@@ -86,13 +82,6 @@ module _ {X : Type 0} where
   replicate_or zero x i = refl
   replicate_or (suc n) x zero = refl
   replicate_or (suc n) x (suc i) = replicate_or n x i
-
-  replicate_size : (n : ℕ) (x : X) → length (replicate n x) ≡ n
-  replicate_size zero x = refl
-  replicate_size (suc n) x = ap suc (replicate_size n x)
-
-  pub same_more : (n : ℕ) (x y : X) (was now : List X) → was ≡ replicate n x → y ≡ x → now ≡ was ++ y ∷ [] → now ≡ replicate (n + 1) x
-  same_more n x y was now before is put = put ∙ (ap (λ l. l ++ y ∷ []) before ∙ (ap (λ z. replicate n x ++ z ∷ []) is ∙ replicate_more n x))
 
 module _ {X Y : Type 0} where
   -- the image of one more
@@ -120,31 +109,13 @@ module _ {X Y : Type 0} where
   map_got f (x ∷ xs) zero y at = (x, refl, cc)
   map_got f (x ∷ xs) (suc i) y at = map_got f xs i y at
 
-  map_replicate : (f : X → Y) (n : ℕ) (x : X) → map f (replicate n x) ≡ replicate n (f x)
-  map_replicate f zero x = refl
-  map_replicate f (suc n) x = ap (λ ys. f x ∷ ys) (map_replicate f n x)
-
 pub map_both : {X Y Z : Type 0} (f : Y → Z) (g : X → Y) (h : X → Z) → ((x : X) → f (g x) ≡ h x) → (xs : List X) → map f (map g xs) ≡ map h xs
 map_both f g h e [] = refl
 map_both f g h e (x ∷ xs) = ap (λ z. z ∷ map f (map g xs)) (e x) ∙ ap (λ zs. h x ∷ zs) (map_both f g h e xs)
 
 -- ---- lines
-logs_of : (p : Layout) (bs : List ℕ) → Pointwise (IsOf p) bs (map (first_log p) bs)
-logs_of p [] = tt
-logs_of p (b ∷ bs) = (record { plan = refl; base = refl }, logs_of p bs)
-
-pub line_of : (p : Layout) → AreOf p (first_logs p)
-line_of p = logs_of p (sources p)
-
-pub line_empty : (p : Layout) → Each (λ (l : LogView). l.entries ≡ []) (first_logs p)
-line_empty p = each_map (λ b. Unit {0}) (λ (l : LogView). l.entries ≡ []) (first_log p) (λ b u. refl) (sources p) (each_of (λ b. Unit {0}) (sources p) (λ b. tt))
-
-pub cut_of : (p : Layout) (n : ℕ) → Each (AreOf p) (replicate n (first_logs p))
-cut_of p zero = tt
-cut_of p (suc n) = (line_of p, cut_of p n)
-
-entries_first : (p : Layout) → entries_of (first_logs p) ≡ first_line p
-entries_first p = map_both (λ (l : LogView). l.entries) (first_log p) (λ b. []) (λ b. refl) (sources p)
+entries_first : (p : Layout) → entries_of (empty_line p) ≡ first_line p
+entries_first p = map_both (λ (l : LogView). l.entries) (empty_log p) (λ b. []) (λ b. refl) (sources p)
 
 -- ---- stage shards
 abbrev stage_over : Layout → ℕ → Line → Bool → Node Stage
@@ -157,14 +128,14 @@ right_is (Some side) = refl
 abbrev stage_with : Layout → ℕ → Line → Bool → Option Keys → Node Stage
 stage_with p s line b right = record { is = record { plan = p; shard = s; line = line; right = right; pending = []; asked = None; marks = [] }; runs = b }
 
-stage_is : (p : Layout) (s : ℕ) (d : StageDomain) → IsNewStage p s (first_logs p) d → stage_node d ≡ first_stage true p s
+stage_is : (p : Layout) (s : ℕ) (d : StageDomain) → IsNewStage p s (empty_line p) d → stage_node d ≡ first_stage true p s
 stage_is p s d new =
     ap (λ (x : Stage). record { is = x; runs = runs d.mode }) new.stage
-    ∙ (ap (stage_with p s (entries_of (first_logs p)) (runs d.mode)) (right_is p.right)
+    ∙ (ap (stage_with p s (entries_of (empty_line p)) (runs d.mode)) (right_is p.right)
     ∙ (ap (λ line. stage_over p s line (runs d.mode)) (entries_first p) ∙ ap (λ m. stage_over p s (first_line p) (runs m)) new.running))
 
 stages_are : (p : Layout) (stages : List StageDomain) → AreNewStages p stages → map stage_node stages ≡ map (first_stage true p) (range_with_len 0 p.stages)
-stages_are p stages are = are_images (λ s d. IsNewStage p s (first_logs p) d) stage_node (first_stage true p) p.stages stages are (stage_is p)
+stages_are p stages are = are_images (λ s d. IsNewStage p s (empty_line p) d) stage_node (first_stage true p) p.stages stages are (stage_is p)
 
 stages_placed : (p : Layout) (stages : List StageDomain) → AreNewStages p stages → Are (IsStageOf p) p.stages stages
 stages_placed p stages are = record {
@@ -174,7 +145,7 @@ stages_placed p stages are = record {
       record {
         plan = ap (λ (x : Stage). x.plan) new.stage;
         shard = ap (λ (x : Stage). x.shard) new.stage;
-        place = subst (λ n. s < n) are.size (is_there stages s d at);
+        place = subst (λ n. s < n) are.size (not_past stages s d at);
         whole = running_whole d.mode new.running;
       };
 }
@@ -186,8 +157,8 @@ not_broken e = cc
 abbrev view_over : Layout → Reader → List Line → Node View
 view_over p r cut = record (first_view p r) { is = record (first_view p r).is { cut = cut } }
 
-cut_is : (p : Layout) → lines_of (replicate p.stages (first_logs p)) ≡ replicate p.stages (first_line p)
-cut_is p = map_replicate entries_of p.stages (first_logs p) ∙ ap (replicate p.stages) (entries_first p)
+cut_is : (p : Layout) → lines_of (replicate p.stages (empty_line p)) ≡ replicate p.stages (first_line p)
+cut_is p = map_replicate entries_of p.stages (empty_line p) ∙ ap (replicate p.stages) (entries_first p)
 
 view_is : (p : Layout) (r : Reader) → view_node (new_view p r) ≡ first_view p r
 view_is p r = ap (view_over p r) (cut_is p)
@@ -204,27 +175,6 @@ views_placed p = record {
 }
 
 -- ---- what the calls that make them leave
-abbrev view_from : Layout → Reader → List (List LogView) → ViewDomain
-view_from p r cut = record {
-  plan = p;
-  view = r.view;
-  shard = r.shard;
-  cut = cut;
-  kept = record { sources = p.stages; filled = []; waiting = [] };
-  asked = 0;
-  marks = record { senders = p.stages; waiting = [] };
-  mode = mode.Running;
-}
-
-pub cut_size : (q : Layout) (cut : List (List LogView)) → cut ≡ replicate q.stages (first_logs q) → length cut ≡ q.stages
-cut_size q cut is = ap length is ∙ replicate_size q.stages (first_logs q)
-
-pub cut_made : (p q : Layout) (n : ℕ) (line : List LogView) (cut : List (List LogView)) → q ≡ p → n ≡ q.stages → line ≡ first_logs p → cut ≡ replicate n line → cut ≡ replicate q.stages (first_logs q)
-cut_made p q n line cut same size is made = made ∙ (ap (λ k. replicate k line) size ∙ ap (replicate q.stages) (is ∙ ap first_logs (sym same)))
-
-pub view_made : (p q : Layout) (r : Reader) (cut : List (List LogView)) (d : ViewDomain) → q ≡ p → cut ≡ replicate q.stages (first_logs q) → d ≡ view_from q r cut → d ≡ new_view p r
-view_made p q r cut d same made is = is ∙ (ap (view_from q r) made ∙ ap (λ x. new_view x r) same)
-
 pub reader_there : (p q : Layout) (xs : List Code) (i : ℕ) (x d : Code) → q ≡ p → map reader_in xs ≡ readers p → i < length xs → x ≡ slice_index_or xs i d → x.view < length q.views
 reader_there p q xs i x d same are lt is =
     let at : slice_get (readers p) i ≡ Some (reader_in x) = ap (λ rs. slice_get rs i) (sym are) ∙ map_get reader_in xs i x (there_at xs i d lt ∙ ap Some (sym is)) in
@@ -277,7 +227,7 @@ module _ {F : Type 0} (log : F → LogView) (authors : F → List Author) where
   base_is : (p : Layout) (b : ℕ) (d : BaseDomain F) → IsNewBase log authors p b d → base_node log authors d ≡ first_base p b
   base_is p b d is =
       ap (λ l. node_of l (authors d.front) (not d.stopped)) is.first.of
-      ∙ (ap (λ wrote. node_of (first_log p b) wrote (not d.stopped)) is.first.unsaid ∙ ap (λ x. node_of (first_log p b) [] (not x)) is.runs)
+      ∙ (ap (λ wrote. node_of (empty_log p b) wrote (not d.stopped)) is.first.unsaid ∙ ap (λ x. node_of (empty_log p b) [] (not x)) is.runs)
 
   base_placed : (p : Layout) (b : ℕ) (d : BaseDomain F) → IsNewBase log authors p b d → IsBaseOf log authors p b d
   base_placed p b d is = record {
@@ -358,5 +308,5 @@ module _ {F : Type 0} (log : F → LogView) (authors : F → List Author) where
       subst (λ n. slice_index_or bs i 0 < n) (sym first.size) (each_at (λ x. x < base_count p) (sources p) i (slice_index_or bs i 0) at (sources_small p (subst IsPlan same good)))
 
   -- and its front is of the empty log
-  pub source_right : {R : Type 0} (front : R → F) (p : Layout) (rights : List R) (b : ℕ) (r : R) → AreFirst log authors front p rights → b < length rights → r ≡ slice_index_or rights b r → log (front r) ≡ first_log p b
+  pub source_right : {R : Type 0} (front : R → F) (p : Layout) (rights : List R) (b : ℕ) (r : R) → AreFirst log authors front p rights → b < length rights → r ≡ slice_index_or rights b r → log (front r) ≡ empty_log p b
   source_right front p rights b r first lt is = (first.each b r (there_at rights b r lt ∙ ap Some (sym is))).of

@@ -4,40 +4,19 @@ use Rattle.plan.specs.Layouts.{Layout}
 use Rattle.model.specs.Fronts.{LogView}
 use Rattle.model.specs.Histories.{Author}
 use Rattle.model.specs.Legal.{most_sessions}
-use Rattle.model.specs.Places.{base_count, sources}
-use Rattle.packet.specs.Readers.{Reader, readers}
-use Rattle.packet.specs.declared.mode.Mode.TheVariants as mode
+use Rattle.model.specs.Places.{base_count}
+use Rattle.packet.specs.Lines.{empty_line, empty_log}
+use Rattle.packet.specs.Readers.{readers}
 use Rattle.protocol.specs.Worlds.{first_caller}
 use Rattle.base_domain.specs.Domains.{Domain as BaseDomain}
 use Rattle.schedule.specs.Sessions.{Session}
 use Rattle.stage_domain.specs.Domains.{Domain as StageDomain, IsNew as IsNewStage}
-use Rattle.view_domain.specs.Domains.{Domain as ViewDomain}
+use Rattle.view_domain.specs.Domains.{Domain as ViewDomain, new_view}
 use Rattle.machine.specs.Held.{Are}
-
--- the empty log of base shard b
-abbrev pub first_log : Layout → ℕ → LogView
-first_log p b = record { plan = p; base = b; entries = [] }
-
--- the empty log of each source
-abbrev pub first_logs : Layout → List LogView
-first_logs p = map (first_log p) (sources p)
 
 -- all stage shards, which know nothing yet
 abbrev pub AreNewStages : Layout → List StageDomain → Type 0
-AreNewStages p stages = Are (λ s d. IsNewStage p s (first_logs p) d) p.stages stages
-
--- a view shard, with no key filled
-abbrev pub new_view : Layout → Reader → ViewDomain
-new_view p r = record {
-  plan = p;
-  view = r.view;
-  shard = r.shard;
-  cut = replicate p.stages (first_logs p);
-  kept = record { sources = p.stages; filled = []; waiting = [] };
-  asked = 0;
-  marks = record { senders = p.stages; waiting = [] };
-  mode = mode.Running;
-}
+AreNewStages p stages = Are (λ s d. IsNewStage p s (empty_line p) d) p.stages stages
 
 -- all view shards
 abbrev pub new_views : Layout → List ViewDomain
@@ -54,7 +33,7 @@ new_sessions p = replicate most_sessions (new_session p)
 module _ {F : Type 0} (log : F → LogView) (authors : F → List Author) where
   -- the front is of the empty log of base shard b
   pub record IsFirst (p : Layout) (b : ℕ) (front : F) : Type 0 where
-    pub of : log front ≡ first_log p b
+    pub of : log front ≡ empty_log p b
     pub unsaid : authors front ≡ []
 
   -- the rights to append to the empty logs of all base shards, in order

@@ -1,8 +1,9 @@
 //! All domains of a plan before the first event.
-ghost use Rattle.std.specs.Prelude.{◌≡◌, ◌<◌, true, replicate, IfOk};
+ghost use Rattle.std.specs.Prelude.{◌≡◌, ◌<◌, true, IfOk};
 ghost use Rattle.model.specs.Places.{base_count};
 ghost use Rattle.protocol.specs.Worlds.{start};
-ghost use Rattle.machine.specs.{Held.Are, Held.IsWhole, Held.world_of, Machines.held, Started.AreFirst, Started.AreNewStages, Started.IsFirst, Started.IsNewBase, Started.first_logs, Started.new_sessions, Started.new_views};
+ghost use Rattle.packet.specs.Lines.{empty_line};
+ghost use Rattle.machine.specs.{Held.Are, Held.IsWhole, Held.world_of, Machines.held, Started.AreFirst, Started.AreNewStages, Started.IsFirst, Started.IsNewBase, Started.new_sessions, Started.new_views};
 
 use crate::machine::Machine;
 use base_domain::base_domain::BaseDomain;
@@ -27,7 +28,7 @@ fn first_line<F: Fronts>(
     rights: &[F::Right],
 ) -> Result<Line<F>, AllocError>
     requires { AreFirst F.log F.authors F.front places.now rights.now }
-    ensures { IfOk result (λ l. l ≡ first_logs places.now) }
+    ensures { IfOk result (λ l. l ≡ empty_line places.now) }
 {
     places.plan().keeps_profile();
     let mut fronts = Vec::new(alloc);
@@ -35,21 +36,6 @@ fn first_line<F: Fronts>(
         fronts.push(F::of(&rights[*base], alloc)?)?;
     }
     Ok(Line::new(fronts))
-}
-
-/// A cut: the same line for so many stage shards. Errors: memory only.
-fn first_cut<F: Fronts>(
-    alloc: Global,
-    stages: usize,
-    line: &Line<F>,
-) -> Result<Vec<Line<F>>, AllocError>
-    ensures { IfOk result (λ v. v.items ≡ replicate stages line.now) }
-{
-    let mut cut = Vec::new(alloc);
-    for _ in 0..stages {
-        cut.push(line.try_clone(alloc)?)?;
-    }
-    Ok(cut)
 }
 
 /// The domain of a base shard, which takes the right to its log. Errors: memory only.
@@ -94,7 +80,7 @@ fn new_stages<'p, F: Fronts>(
     plan: &'p Plan,
     line: &Line<F>,
 ) -> Result<Vec<StageDomain<'p, F>>, AllocError>
-    requires { line.now ≡ first_logs plan.now }
+    requires { line.now ≡ empty_line plan.now }
     ensures { IfOk result (λ v. AreNewStages plan.now v.items) }
 {
     let mut stages = Vec::new(alloc);
@@ -110,19 +96,19 @@ fn new_views<'p, F: Fronts>(
     places: &Places<'p>,
     line: &Line<F>,
 ) -> Result<Vec<ViewDomain<'p, F>>, AllocError>
-    requires { line.now ≡ first_logs places.now }
+    requires { line.now ≡ empty_line places.now }
     ensures { IfOk result (λ v. v.items ≡ new_views places.now) }
 {
     let plan = places.plan();
     let mut views = Vec::new(alloc);
     for reader in places.readers() {
-        let cut = first_cut(alloc, plan.stages(), line)?;
+        let cut = line.copies(alloc, plan.stages())?;
         views.push(ViewDomain::new(alloc, plan, reader.view, reader.shard, cut)?)?;
     }
     Ok(views)
 }
 
-/// All sessions, in a store of so many base shards. Errors: memory only.
+/// All sessions, in a store of this many base shards. Errors: memory only.
 fn new_callers(alloc: Global, places: &Places, bases: usize) -> Result<Vec<Caller>, AllocError>
     requires { bases ≡ base_count places.now }
     ensures { IfOk result (λ v. v.items ≡ new_sessions places.now) }

@@ -11,22 +11,13 @@ use Rattle.row.proofs.Filtered.{Each-filter}
 use Rattle.row.proofs.Shards.{same_is, same_self}
 use Rattle.plan.specs.Outputs.{keys_of}
 use Rattle.packet.specs.Keys.{is_among, Ascends}
-
--- the two tests are one
-pub flipped : (x y : Datum) → same x y ≡ same y x
-flipped x y = by (same x y) refl (same y x) refl
-  where
-    by : (b : Bool) → same x y ≡ b → (c : Bool) → same y x ≡ c → b ≡ c
-    by true e true f = refl
-    by false e false f = refl
-    by true e false f = sym (sym f ∙ (ap (λ z. same y z) (same_is x y e) ∙ same_self y))
-    by false e true f = sym e ∙ (ap (λ z. same x z) (same_is y x f) ∙ same_self x)
+use Rattle.row.proofs.Keys.{same_flip}
 
 abbrev Above : Datum → List Datum → Type 0
 Above x ys = Each (λ y. datum_cmp x y ≡ Less) ys
 
 apart : (x y : Datum) → datum_cmp x y ≡ Less → same y x ≡ false
-apart x y h = flipped y x ∙ ap is_eq h
+apart x y h = same_flip y x ∙ ap is_eq h
 
 -- what is below all is not there
 absent : (x : Datum) (xs : List Datum) → Above x xs → is_among xs x ≡ false
@@ -82,7 +73,7 @@ ascends_inserted x (y ∷ ys) a h = step (datum_cmp x y) refl (same y x) refl h 
     step : (o : Ordering) → datum_cmp x y ≡ o → (b : Bool) → same y x ≡ b → (b || is_among ys x) ≡ false → (is_among ys x ≡ false → Ascends (inserted datum_cmp x ys)) → Ascends (cond (is_gt o) (y ∷ inserted datum_cmp x ys) (x ∷ y ∷ ys))
     step Less e b s n more = ((e, above_more x y ys e a.0), a)
     step Equal e true s n more = absurd (true≢false n)
-    step Equal e false s n more = absurd (true≢false (sym (flipped y x ∙ ap is_eq e) ∙ s))
+    step Equal e false s n more = absurd (true≢false (sym (same_flip y x ∙ ap is_eq e) ∙ s))
     step Greater e true s n more = absurd (true≢false n)
     step Greater e false s n more = (above_inserted x y ys (datum_total.antisymm y x ∙ ap ordering_reverse e) a.0, more n)
 
@@ -158,7 +149,7 @@ ascends_keys c rows = ascends_sorted (keys_of c rows) (singles_keys c rows)
 -- a row has it there
 pub among_keys : (c : ℕ) (rows : List Cells) (k : Datum) → is_among (keys_of c rows) k ≡ list_any (λ r. same (cell_at r c) k) rows
 among_keys c [] k = refl
-among_keys c (r ∷ rows) k = step (same (cell_at r c) k) (among_filter (others (cell_at r c)) (keys_of c rows) k ∙ ap (λ b. not b && is_among (keys_of c rows) k) (flipped k (cell_at r c))) (among_keys c rows k)
+among_keys c (r ∷ rows) k = step (same (cell_at r c) k) (among_filter (others (cell_at r c)) (keys_of c rows) k ∙ ap (λ b. not b && is_among (keys_of c rows) k) (same_flip k (cell_at r c))) (among_keys c rows k)
   where
     step : (b : Bool) → is_among (filter (others (cell_at r c)) (keys_of c rows)) k ≡ (not b && is_among (keys_of c rows) k) → is_among (keys_of c rows) k ≡ list_any (λ r. same (cell_at r c) k) rows
         → (b || is_among (filter (others (cell_at r c)) (keys_of c rows)) k) ≡ (b || list_any (λ r. same (cell_at r c) k) rows)

@@ -1,6 +1,5 @@
 -- The records of keys: what is left to do, and how keys then stand.
-use Rattle.std.proofs.Common.{◌≡◌, ℕ, zero, suc, Bool, true, false, cond, ◌||◌, List, [], ◌∷◌, map, Option, Some, None, slice_get, Result, Ok, Err, OnOk, OnErr, refl, ap, sym, ◌∙◌, subst, true≢false}
-use Rattle.std.specs.Prelude.{⊤}
+use Rattle.std.proofs.Common.{◌≡◌, ℕ, zero, suc, Bool, true, false, cond, ◌||◌, List, [], ◌∷◌, Option, Some, None, slice_get, Result, Ok, Err, OnOk, OnErr, refl, ap, sym, ◌∙◌, subst, true≢false}
 use Rattle.std.specs.List.{IsDistinct, AllByRecursion}
 use Rattle.std.specs.Map.{lookup, keys_of}
 use Rattle.std.specs.Option.{option_map}
@@ -18,7 +17,7 @@ use Rattle.row.proofs.Shards.{same_is, same_self}
 use Rattle.partial.specs.States.{State, Hole, Waiting, Filled, state_of, order_of, after_change, piece_changed, ChangeFits, OthersStay}
 use Rattle.packet.specs.Groups.{KeyedRecords, or_empty, records_at, names_of, changed_by}
 use Rattle.packet.specs.Keys.{stand_of, stands_of, is_among}
-use Rattle.packet.proofs.KeptKeys.{keys_stay}
+use Rattle.packet.proofs.KeptKeys.{keys_stay, blank}
 use Rattle.packet.proofs.KeySteps.{Store, state_same, one_key}
 
 -- ---- a change that is held in something
@@ -89,10 +88,6 @@ module _ (source : ℕ) (mid new : Store) (key : Value) (records : List Record) 
           let gone : lookup (equal k) rest ≡ None = lookup_same key k rest back ∙ absent key rest (IsDistinct-head equal key (keys_of rest) distinct) in
           rw gone (ap (after_change with_records source records) (sym (state_same mid key k back)) ∙ (sym applied ∙ state_same new key k back))
       step false e = ap (changed_by source (lookup (equal k) rest)) (sym (others k (sym (value_equivalence.symm k key) ∙ e)))
-
--- keys stand as they did
-abbrev blank : List (Option (List Cells)) → List (Option ⊤)
-blank pieces = map (option_map (λ p. tt)) pieces
 
 blank_changed : (records : List Record) (pieces : List (Option (List Cells))) (s : ℕ) → blank (piece_changed with_records records s pieces (slice_get pieces s)) ≡ blank pieces
 blank_changed records [] s = refl

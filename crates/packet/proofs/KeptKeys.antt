@@ -13,7 +13,7 @@ use Rattle.partial.specs.States.{State, Hole, Waiting, Filled, Kept, state_of, o
 use Rattle.packet.specs.Keys.{Stand, stands_of, by_datum, stand_of, begin_at, give_at, evict_at, with_stand}
 
 -- ---- one key
-abbrev blank : {E : Type 0} → List (Option E) → List (Option ⊤)
+abbrev pub blank : {E : Type 0} → List (Option E) → List (Option ⊤)
 blank pieces = map (option_map (λ p. tt)) pieces
 
 blank_none : (E : Type 0) (n : ℕ) → blank {E = E} (replicate n None) ≡ replicate n None

@@ -8,3 +8,4 @@ mod Arrivals
 pub mod KeySteps
 pub mod GroupSteps
 pub mod GroupChanges
+pub mod Copies

@@ -13,6 +13,13 @@ no_plan = record { tables = []; stages = 0; left = record { table = 0; key = 0; 
 abbrev pub no_log : LogView
 no_log = record { plan = no_plan; base = 0; entries = [] }
 
+-- the empty log of base shard b, and that of each source
+abbrev pub empty_log : Layout → ℕ → LogView
+empty_log p b = record { plan = p; base = b; entries = [] }
+
+abbrev pub empty_line : Layout → List LogView
+empty_line p = map (empty_log p) (sources p)
+
 -- the fronts of the line
 abbrev pub entries_of : List LogView → Line
 entries_of line = map (λ (l : LogView). l.entries) line

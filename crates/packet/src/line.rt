@@ -1,5 +1,5 @@
 //! A front of each source.
-ghost use Rattle.std.specs.Prelude.{◌≡◌, ◌<◌, length, map, IfOk, Some, slice_get, slice_set};
+ghost use Rattle.std.specs.Prelude.{◌≡◌, ◌<◌, length, map, replicate, IfOk, Some, slice_get, slice_set};
 ghost use Rattle.packet.specs.Lines.{lengths_of};
 
 use model::fronts::Fronts;
@@ -64,9 +64,20 @@ impl<F: Fronts> Line<F> {
     {
         let mut fronts = Vec::new(alloc);
         for front in &self.fronts {
-            fronts.push(front.again(alloc)?)?;
+            fronts.push(front.try_clone(alloc)?)?;
         }
         Ok(Line { fronts })
+    }
+
+    /// As many copies of it. Errors: memory only. Cost: a copy of each front for each.
+    pub fn copies(&self, alloc: Global, count: usize) -> Result<Vec<Line<F>>, AllocError>
+        ensures { IfOk result (λ v. v.items ≡ replicate count self.now) }
+    {
+        let mut lines = Vec::new(alloc);
+        for _ in 0..count {
+            lines.push(self.try_clone(alloc)?)?;
+        }
+        Ok(lines)
     }
 
     /// How many entries each front has. Errors: memory only.

@@ -179,7 +179,7 @@ pub fn allows(
     }
 }
 
-/// `None` where the items are a legal history of so many sessions over the plan, each allowed by
+/// `None` where the items are a legal history of this many sessions over the plan, each allowed by
 /// those before it, and else the place of the first that is not. Errors: memory only. Cost: for
 /// each item a look at all before it, and the answer of a read.
 pub fn verdict(

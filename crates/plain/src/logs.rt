@@ -46,7 +46,7 @@ pub fn log_of(alloc: Global, items: &[Item], base: usize) -> Result<Front, Alloc
     Ok(Front::new(entries))
 }
 
-/// The first entries of that log, at most so many. Errors: memory only. Cost: that of the log.
+/// The first entries of that log, at most this many. Errors: memory only. Cost: that of the log.
 pub fn front_of(
     alloc: Global,
     items: &[Item],

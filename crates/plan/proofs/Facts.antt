@@ -1,6 +1,6 @@
 -- The facts of a plan, from the checks that it goes through.
 use Rattle.std.proofs.Common.{◌≡◌, ℕ, zero, suc, ◌<◌, ◌≤◌, Bool, true, false, List, [], ◌∷◌, length, refl, arith, Option, Some, None, slice_index_or, slice_get}
-use Rattle.std.specs.Prelude.{nat_le, nat_lt}
+use Rattle.std.specs.Prelude.{nat_le}
 use Rattle.std.specs.Option.{option_map}
 use Rattle.std.specs.List.{list_all}
 use Rattle.std.proofs.lemmas.Bool.Decides.{nat_tests}
@@ -13,12 +13,10 @@ use Rattle.plan.specs.declared.kinds.Aggregate.TheVariants.{Count, Sum}
 use Rattle.plan.specs.declared.kinds.Kind.{Kind}
 use Rattle.plan.specs.declared.kinds.Kind.TheVariants as kind
 use Rattle.plan.proofs.Both.{both}
+use Rattle.row.proofs.Filtered.{lt_of}
 
 -- ---- what a test shows
-lt_of : (a b : ℕ) → nat_lt a b ≡ true → a < b
-lt_of a b h = grind (arith, nat_tests)
-
-le_of : (a b : ℕ) → nat_le a b ≡ true → a ≤ b
+pub le_of : (a b : ℕ) → nat_le a b ≡ true → a ≤ b
 le_of a b h = grind (arith, nat_tests)
 
 from_of : (least most n : ℕ) → is_from least most n ≡ true → IsFrom least most n
@@ -72,7 +70,7 @@ aggregate_of t (Some Count) h = tt
 aggregate_of t (Some (Sum c)) h = column_of t.columns c h
 
 -- ---- a plan goes through each check
-not_refused : (b : Bool) (n : ℕ) (rest : Option ℕ) → refusal_unless b n rest ≡ None → (b ≡ true) × (rest ≡ None)
+pub not_refused : (b : Bool) (n : ℕ) (rest : Option ℕ) → refusal_unless b n rest ≡ None → (b ≡ true) × (rest ≡ None)
 not_refused true n rest h = (refl, h)
 not_refused false n rest h = absurd cc
 

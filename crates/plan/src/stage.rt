@@ -133,7 +133,7 @@ impl Side {
         self.conditions.iter().all(Condition::is_small)
     }
 
-    /// Whether the key and the columns of all conditions are among so many columns.
+    /// Whether the key and the columns of all conditions are among this many columns.
     pub(crate) fn is_within(&self, width: usize) -> bool
         ensures { result ≡ side_is_within width self.now }
     {

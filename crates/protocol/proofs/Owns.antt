@@ -19,8 +19,9 @@ use Rattle.protocol.specs.WorldSteps.{own_in, covers, greater, greatest, after_o
 use Rattle.protocol.specs.Edges.{pairs}
 use Rattle.protocol.proofs.Wired.{Wired, IsLogOf}
 use Rattle.protocol.proofs.Lists.{each_at, or_of}
-use Rattle.protocol.proofs.Spots.{same_is, each_append, range_get}
+use Rattle.protocol.proofs.Spots.{same_is, range_get}
 use Rattle.protocol.proofs.Within.{there, not_past, sources_small}
+use Rattle.plan.proofs.OwnTexts.{each_join}
 
 -- ---- each
 pub each_in : {X : Type 0} (P : X → Type 0) (xs : List X) → ((i : ℕ) (x : X) → slice_get xs i ≡ Some x → P x) → Each P xs
@@ -29,9 +30,10 @@ each_in P (x ∷ xs) g = (g 0 x refl, each_in P xs (λ i y at. g (suc i) y at))
 
 pub each_flat : {X Y : Type 0} (P : Y → Type 0) (f : X → List Y) (xs : List X) → Each (λ x. Each P (f x)) xs → Each P (flat_map f xs)
 each_flat P f [] h = tt
-each_flat P f (x ∷ xs) h = each_append P (f x) (flat_map f xs) h.0 (each_flat P f xs h.1)
+each_flat P f (x ∷ xs) h = each_join P (f x) (flat_map f xs) h.0 (each_flat P f xs h.1)
 
-each_first : {X : Type 0} (P : X → Type 0) (xs ys : List X) → Each P (xs ++ ys) → Each P xs × Each P ys
+-- what holds of each of two lists together holds of each of both
+pub each_first : {X : Type 0} (P : X → Type 0) (xs ys : List X) → Each P (xs ++ ys) → Each P xs × Each P ys
 each_first P [] ys h = (tt, h)
 each_first P (x ∷ xs) ys h = let r = each_first P xs ys h.1 in ((h.0, r.0), r.1)
 

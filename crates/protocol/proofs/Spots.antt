@@ -8,8 +8,8 @@ use Rattle.plan.specs.Layouts.{SideLayout, Layout, view_at}
 use Rattle.std.specs.Option.{option_map}
 use Rattle.std.specs.List.{position_or_len}
 use Rattle.std.specs.Prelude.{nat_lt, nat_eq, not}
-use Rattle.plan.specs.Profile.{IsPlan, keeps_limits, has_own_names, has_known_places, has_single_paths, refusal_unless, if_there}
-use Rattle.plan.proofs.Facts.{facts}
+use Rattle.plan.specs.Profile.{IsPlan, keeps_limits, has_own_names, has_known_places, has_single_paths, if_there}
+use Rattle.plan.proofs.Facts.{facts, not_refused}
 use Rattle.plan.specs.Facts.{IsSide, IfThere}
 use Rattle.model.specs.Places.{base_at, table_of, side_count, side_bases, right_bases, sources}
 use Rattle.model.proofs.PlaceLaws.{base_table, base_apart}
@@ -17,6 +17,7 @@ use Rattle.packet.specs.Readers.{is_reader, readers, readers_of, side_of, side_i
 use Rattle.protocol.specs.Edges.{reader_place}
 use Rattle.protocol.proofs.Lists.{map_get}
 use Rattle.model.proofs.Growth.{get_later}
+use Rattle.plan.proofs.OwnTexts.{each_join}
 
 pub same_is : (a b : ℕ) → (a == b) ≡ true → a ≡ b
 same_is a b e = grind (arith, nat_tests)
@@ -73,10 +74,6 @@ each_range P a (suc n) g =
     let e : a + 0 ≡ a = omega arith in
     (subst P e (g 0 (omega arith)), each_range P (a + 1) n (λ k lt. let f : a + suc k ≡ a + 1 + k = omega arith in subst P f (g (suc k) (omega arith))))
 
-pub each_append : {X : Type 0} (P : X → Type 0) (xs ys : List X) → Each P xs → Each P ys → Each P (xs ++ ys)
-each_append P [] ys h k = k
-each_append P (x ∷ xs) ys h k = (h.0, each_append P xs ys h.1 k)
-
 abbrev pub AreOnce : List ℕ → Type 0
 AreOnce [] = Unit {0}
 AreOnce (x ∷ xs) = Each (λ y. (x == y) ≡ false) xs × AreOnce xs
@@ -87,7 +84,7 @@ once_range a (suc n) = (each_range (λ y. (a == y) ≡ false) (a + 1) n (λ k lt
 
 once_append : (xs ys : List ℕ) → AreOnce xs → AreOnce ys → Each (λ x. Each (λ y. (x == y) ≡ false) ys) xs → AreOnce (xs ++ ys)
 once_append [] ys a b c = b
-once_append (x ∷ xs) ys a b c = (each_append (λ y. (x == y) ≡ false) xs ys a.0 c.0, once_append xs ys a.1 b c.1)
+once_append (x ∷ xs) ys a b c = (each_join (λ y. (x == y) ≡ false) xs ys a.0 c.0, once_append xs ys a.1 b c.1)
 
 -- ---- sources
 pub at_start : (p : Layout) (t k : ℕ) → base_at p t 0 + k ≡ base_at p t k
@@ -99,10 +96,6 @@ unequal a b f = by (a == b) refl
     by : (c : Bool) → (a == b) ≡ c → (a == b) ≡ false
     by true e = absurd (f (same_is a b e))
     by false e = e
-
-not_refused : (b : Bool) (n : ℕ) (rest : Option ℕ) → refusal_unless b n rest ≡ None → (b ≡ true) × (rest ≡ None)
-not_refused true n rest h = (refl, h)
-not_refused false n rest h = absurd cc
 
 -- the two sides are of two tables
 single : (p : Layout) → IsPlan p → has_single_paths p ≡ true
@@ -154,7 +147,7 @@ right_side_of p side k g is lt =
 
 -- each source is of a side
 pub sources_sided : (p : Layout) → IsPlan p → Each (HasSide p) (sources p)
-sources_sided p g = each_append (HasSide p) (side_bases p p.left) (right_bases p p.right) (each_range (HasSide p) (base_at p p.left.table 0) (side_count p p.left) (λ k lt. left_side p k g lt)) (by p.right refl)
+sources_sided p g = each_join (HasSide p) (side_bases p p.left) (right_bases p p.right) (each_range (HasSide p) (base_at p p.left.table 0) (side_count p p.left) (λ k lt. left_side p k g lt)) (by p.right refl)
   where
     by : (right : Option SideLayout) → p.right ≡ right → Each (HasSide p) (right_bases p right)
     by None e = tt
@@ -179,10 +172,12 @@ in_flat f y [] x i n at e = cc
 in_flat f y (z ∷ xs) x zero n at e = let s : z ≡ x = cc in (n, get_later (f z) (flat_map f xs) n y (ap (λ v. slice_get (f v) n) s ∙ e))
 in_flat f y (z ∷ xs) x (suc i) n at e = let r = in_flat f y xs x i n at e in in_right y (f z) (flat_map f xs) r.0 r.1
 
-reader_passes : (i j : ℕ) → is_reader i j (record { view = i; shard = j }) ≡ true
+-- a reader passes its own test
+pub reader_passes : (i j : ℕ) → is_reader i j (record { view = i; shard = j }) ≡ true
 reader_passes i j = rw (is_same i) (is_same j)
 
-reader_in : (p : Layout) (i j : ℕ) → i < length p.views → j < (view_at p i).shards → IsIn (record { view = i; shard = j }) (readers p)
+-- each shard of a view is among the readers
+pub reader_in : (p : Layout) (i j : ℕ) → i < length p.views → j < (view_at p i).shards → IsIn (record { view = i; shard = j }) (readers p)
 reader_in p i j lt lj =
     let e : 0 + i ≡ i = omega arith in
     let f : 0 + j ≡ j = omega arith in

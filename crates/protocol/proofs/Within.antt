@@ -13,7 +13,8 @@ use Rattle.std.proofs.Math.Seq.{take-append_seam}
 use Rattle.model.specs.Cuts.{line_of, fronts_of, IsWithin}
 use Rattle.model.proofs.PlaceLaws.{base_range}
 use mathlib.Core.List.{IsPrefix}
-use Rattle.packet.specs.Truth.{IsRun, Pointwise, IsBaseRun, Grows}
+use Rattle.packet.specs.Truth.{Pointwise, Grows}
+use Rattle.protocol.proofs.Leading.{IsRun, IsBaseRun}
 use Rattle.protocol.specs.Bases.{Base}
 use Rattle.protocol.specs.Stages.{Stage}
 use Rattle.protocol.specs.Views.{View}
@@ -23,13 +24,14 @@ use Rattle.protocol.proofs.Wired.{Wired, entries_at, entries_in, source_logs, li
 use Rattle.protocol.proofs.Lists.{each_at, pair_size}
 use Rattle.protocol.proofs.EdgeLaws.{edges_before}
 use Rattle.protocol.proofs.Parts.{base_runs, stage_runs, grows_chains}
-use Rattle.protocol.proofs.Spots.{each_range, each_append, at_start}
+use Rattle.protocol.proofs.Spots.{each_range, at_start}
 use Rattle.protocol.proofs.Moves.{line_len}
 use Rattle.std.proofs.lemmas.List.{length-map}
+use Rattle.plan.proofs.OwnTexts.{each_join}
 
 -- ---- sources are base shards of the plan
 pub sources_small : (p : Layout) → IsPlan p → Each (λ b. b < base_count p) (sources p)
-sources_small p g = each_append (λ b. b < base_count p) (side_bases p p.left) (right_bases p p.right)
+sources_small p g = each_join (λ b. b < base_count p) (side_bases p p.left) (right_bases p p.right)
     (each_range (λ b. b < base_count p) (base_at p p.left.table 0) (side_count p p.left) (λ k lt. subst (λ b. b < base_count p) (sym (at_start p p.left.table k)) (base_range p p.left.table k (facts p g).left.table lt))) (by p.right refl)
   where
     by : (right : Option SideLayout) → p.right ≡ right → Each (λ b. b < base_count p) (right_bases p right)
@@ -105,7 +107,8 @@ cut_within p h cut c = record {
   lengths = lengths_small p h cut c.lines;
 }
 
-prefix_take : {X : Type 0} (xs ys : List X) → IsPrefix xs ys → take (length xs) ys ≡ xs
+-- what begins a list is its first part
+pub prefix_take : {X : Type 0} (xs ys : List X) → IsPrefix xs ys → take (length xs) ys ≡ xs
 prefix_take xs ys p = ap (take (length xs)) (sym p.1) ∙ take-append_seam xs p.0
 
 line_fronts : (h : List Item) (xs : List ℕ) (l : Line) → Grows l (map (λ b. log_of b h) xs) → line_of h xs (map length l) ≡ l

@@ -1,4 +1,4 @@
 mod Filled
 mod Owned
-mod Stands
+pub mod Stands
 mod Taken

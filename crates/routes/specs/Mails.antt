@@ -1,7 +1,5 @@
 -- What comes to a base shard, and replies.
-use Rattle.std.specs.Prelude.{◌≡◌, ℕ, [], Some, None}
-use Rattle.plan.specs.Layouts.{Layout}
-use Rattle.model.specs.Fronts.{LogView}
+use Rattle.std.specs.Prelude.{◌≡◌, ℕ, Some, None}
 use Rattle.packet.specs.Answers.{AnswerView}
 use Rattle.protocol.specs.Bases.{ToBase}
 
@@ -9,10 +7,6 @@ use Rattle.protocol.specs.Bases.{ToBase}
 pub record BaseMailView : Type 0 where
   pub base : ℕ
   pub message : ToBase
-
--- the empty log of a base shard
-abbrev pub empty_log : Layout → ℕ → LogView
-empty_log p b = record { plan = p; base = b; entries = [] }
 
 -- an accepted answer has a front
 pub record HasFront {F : Type 0} (a : AnswerView F) : Type 0 where

@@ -2,10 +2,11 @@
 ghost use Rattle.std.specs.Prelude.{◌≡◌, ◌<◌, true};
 ghost use Rattle.row.specs.Cells.{shard};
 ghost use Rattle.model.specs.{Entries.change_of, Logs.fits, Logs.key_of, Places.layout_of, Places.shard_of};
-ghost use Rattle.base_domain.specs.{Codes.message_of, Received.IsFor, Received.last_number};
+ghost use Rattle.base_domain.specs.{Codes.message_of, Received.IsFor};
 ghost use Rattle.packet.specs.Codes.{mark_of};
-ghost use Rattle.protocol.specs.Bases.{write as write_to, request as request_to, marker as marker_to};
-ghost use Rattle.routes.specs.Mails.{empty_log, HasFront};
+ghost use Rattle.protocol.specs.Bases.{last_number, write as write_to, request as request_to, marker as marker_to};
+ghost use Rattle.packet.specs.Lines.{empty_log};
+ghost use Rattle.routes.specs.Mails.{HasFront};
 
 use base_domain::message::{ToBase, Write};
 use book::front::Front;
@@ -29,7 +30,8 @@ pub struct BaseMail<J: Naming> {
 
 impl<J: Naming> Model for BaseMail<J> {
     ghost use Rattle.base_domain.specs.{Codes.message_of, Received.IsFor};
-    ghost use Rattle.routes.specs.Mails.{BaseMailView, empty_log};
+    ghost use Rattle.packet.specs.Lines.{empty_log};
+    ghost use Rattle.routes.specs.Mails.{BaseMailView};
 
     ghost Value = { BaseMailView };
 

@@ -121,7 +121,8 @@ module _ (p : Cells → Bool) where
       step Greater e false eb true ec h = rw ec (ap (λ t. y ∷ t) h)
       step Greater e false eb false ec h = rw ec h
 
-lt_of : (a b : ℕ) → nat_lt a b ≡ true → a < b
+-- what a test of less shows
+pub lt_of : (a b : ℕ) → nat_lt a b ≡ true → a < b
 lt_of a b h = grind (arith, nat_tests)
 
 le_of : (a b : ℕ) → nat_lt a b ≡ false → b ≤ a

@@ -5,7 +5,7 @@ ghost use Rattle.std.specs.List.Sorted.{IsPartitionPoint};
 ghost use Rattle.row.specs.{Cells.row_cmp, Bags.times, Bags.inserted, Bags.removed, Bags.IsAscending, BagChanges.plus_applied, BagChanges.minus_applied, BagChanges.taken_back, BagChanges.with_gains, BagChanges.with_losses, BagChanges.with_records};
 
 use crate::record::{Record, Sign};
-use crate::row::Row;
+use crate::row::{Row, copies};
 use std::alloc::{AllocError, Global};
 use std::marker::Model;
 
@@ -195,15 +195,4 @@ fn place(rows: &[Row], row: &Row) -> usize
         (λ y. is_gt (row_cmp row.now y) ≡ false) rows.now result }
 {
     rows.partition_point(|other| row.cmp(other).is_gt())
-}
-
-/// The same rows, in a list whose memory is taken once.
-fn copies(alloc: Global, rows: &[Row]) -> Result<Vec<Row>, AllocError>
-    ensures { IfOk result (λ v. v.items ≡ rows.now) }
-{
-    let mut all = Vec::with_capacity(alloc, rows.len())?;
-    for row in rows {
-        all.push(row.try_clone(alloc)?)?;
-    }
-    Ok(all)
 }

@@ -3,10 +3,7 @@ use Rattle.std.proofs.Common.{◌≡◌, ℕ, zero, suc, ◌+◌, ◌<◌, ◌&&
 use Rattle.std.specs.List.{list_all, range_with_len}
 use Rattle.std.proofs.lemmas.List.Folds.{list_all-append, list_all-map}
 use Rattle.model.proofs.PlaceLaws.{range_more}
-
-and_true : (a b : Bool) → a ≡ true → b ≡ true → (a && b) ≡ true
-and_true true b e f = f
-and_true false b e f = cc
+use Rattle.plan.proofs.Both.{and_both}
 
 and_false : (a b : Bool) → b ≡ false → (a && b) ≡ false
 and_false true b e = e
@@ -17,7 +14,7 @@ pub all_more : (test : ℕ → Bool) (n : ℕ) → list_all test (range_with_len
 all_more test n before here =
     ap (list_all test) (sym (range_more 0 n n (omega arith)))
     ∙ list_all-append test (range_with_len 0 n) (n ∷ [])
-    ∙ and_true (list_all test (range_with_len 0 n)) (test n && true) before (and_true (test n) true here refl)
+    ∙ and_both (list_all test (range_with_len 0 n)) (test n && true) before (and_both (test n) true here refl)
 
 -- one fails
 fails_from : (test : ℕ → Bool) (a n j : ℕ) → j < n → test (a + j) ≡ false → list_all test (range_with_len a n) ≡ false

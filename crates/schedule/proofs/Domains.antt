@@ -12,7 +12,10 @@ use Rattle.packet.specs.Readers.{Reader, is_reader, readers}
 use Rattle.protocol.specs.Edges.{is_domain, is_there, place_or, reader_place}
 use Rattle.protocol.proofs.Lists.{each_at, each_map, map_get}
 use Rattle.protocol.proofs.Owns.{each_flat}
-use Rattle.protocol.proofs.Spots.{IsIn, both_true, each_append, each_range, found, in_flat, in_right, is_found, is_same, range_get, reader_found, same_is}
+use Rattle.protocol.proofs.Spots.{IsIn, both_true, each_range, found, in_flat, in_right, is_found, is_same, range_get, reader_found, same_is}
+use Rattle.plan.proofs.Both.{and_both}
+use Rattle.row.proofs.Filtered.{lt_of}
+use Rattle.plan.proofs.OwnTexts.{each_join}
 
 -- by its numbers
 abbrev has : Layout → DomainId → Bool
@@ -25,15 +28,8 @@ same_bool true b f g = sym (f refl)
 same_bool false true f g = g refl
 same_bool false false f g = refl
 
-and_true : (a b : Bool) → a ≡ true → b ≡ true → (a && b) ≡ true
-and_true true b e f = f
-and_true false b e f = cc
-
 is_less : (a b : ℕ) → a < b → nat_lt a b ≡ true
 is_less a b lt = grind (arith, nat_tests)
-
-less_is : (a b : ℕ) → nat_lt a b ≡ true → a < b
-less_is a b e = grind (arith, nat_tests)
 
 not_less : (a b : ℕ) → b ≤ a → nat_lt a b ≡ false
 not_less a b le = grind (arith, nat_tests)
@@ -42,17 +38,17 @@ not_less a b le = grind (arith, nat_tests)
 all_had : (p : Layout) → Each (λ d. has p d ≡ true) (domains p)
 all_had p =
     let P : DomainId → Type 0 = λ d. has p d ≡ true in
-    each_append P _ (view_shards p)
-    (each_append P (base_shards p) (stage_shards p)
+    each_join P _ (view_shards p)
+    (each_join P (base_shards p) (stage_shards p)
     (each_flat P (shards_of_table p) (range_with_len 0 (length p.tables))
     (each_range (λ t. Each P (shards_of_table p t)) 0 (length p.tables) (λ t lt.
     each_map (λ n. P (domain.Base (0 + t) n)) P (λ n. domain.Base (0 + t) n) (λ n h. h) (range_with_len 0 (table_at p (0 + t)).shards)
-    (each_range (λ n. P (domain.Base (0 + t) n)) 0 (table_at p (0 + t)).shards (λ n ln. and_true _ _ (is_less (0 + t) (length p.tables) (omega (arith, lt))) (is_less (0 + n) (table_at p (0 + t)).shards (omega (arith, ln))))))))
+    (each_range (λ n. P (domain.Base (0 + t) n)) 0 (table_at p (0 + t)).shards (λ n ln. and_both _ _ (is_less (0 + t) (length p.tables) (omega (arith, lt))) (is_less (0 + n) (table_at p (0 + t)).shards (omega (arith, ln))))))))
     (each_map (λ n. P (domain.Stage n)) P (λ n. domain.Stage n) (λ n h. h) (range_with_len 0 p.stages) (each_range (λ n. P (domain.Stage n)) 0 p.stages (λ n ln. is_less (0 + n) p.stages (omega (arith, ln))))))
     (each_flat P (shards_of_view p) (range_with_len 0 (length p.views))
     (each_range (λ i. Each P (shards_of_view p i)) 0 (length p.views) (λ i lt.
     each_map (λ n. P (domain.View (0 + i) n)) P (λ n. domain.View (0 + i) n) (λ n h. h) (range_with_len 0 (view_at p (0 + i)).shards)
-    (each_range (λ n. P (domain.View (0 + i) n)) 0 (view_at p (0 + i)).shards (λ n ln. and_true _ _ (is_less (0 + i) (length p.views) (omega (arith, lt))) (is_less (0 + n) (view_at p (0 + i)).shards (omega (arith, ln))))))))
+    (each_range (λ n. P (domain.View (0 + i) n)) 0 (view_at p (0 + i)).shards (λ n ln. and_both _ _ (is_less (0 + i) (length p.views) (omega (arith, lt))) (is_less (0 + n) (view_at p (0 + i)).shards (omega (arith, ln))))))))
 
 one_is : (d e : DomainId) → is_domain d e ≡ true → e ≡ d
 one_is (domain.Base t n) (domain.Base u m) h =
@@ -80,9 +76,9 @@ there_had p d h = by (position (is_domain d) (domains p)) refl h
 
 -- ---- and what is had by its numbers is one of them
 of_itself : (d : DomainId) → is_domain d d ≡ true
-of_itself (domain.Base t n) = and_true (t == t) (n == n) (is_same t) (is_same n)
+of_itself (domain.Base t n) = and_both (t == t) (n == n) (is_same t) (is_same n)
 of_itself (domain.Stage n) = is_same n
-of_itself (domain.View v n) = and_true (v == v) (n == n) (is_same v) (is_same n)
+of_itself (domain.View v n) = and_both (v == v) (n == n) (is_same v) (is_same n)
 
 in_there : (p : Layout) (d : DomainId) → IsIn d (domains p) → is_there p d ≡ true
 in_there p d i = ap is_some (is_found (is_domain d) (domains p) i.0 d i.1 (of_itself d)).1
@@ -93,17 +89,17 @@ from_zero k = omega arith
 had_there : (p : Layout) (d : DomainId) → has p d ≡ true → is_there p d ≡ true
 had_there p (domain.Base t n) h =
     let b = both_true (nat_lt t (length p.tables)) (nat_lt n (table_at p t).shards) h in
-    let i = in_flat (shards_of_table p) (domain.Base t n) (range_with_len 0 (length p.tables)) t t n (range_get 0 (length p.tables) t (less_is t (length p.tables) b.0) ∙ ap Some (from_zero t))
-    (map_get (λ k. domain.Base t k) (range_with_len 0 (table_at p t).shards) n n (range_get 0 (table_at p t).shards n (less_is n (table_at p t).shards b.1) ∙ ap Some (from_zero n)))
+    let i = in_flat (shards_of_table p) (domain.Base t n) (range_with_len 0 (length p.tables)) t t n (range_get 0 (length p.tables) t (lt_of t (length p.tables) b.0) ∙ ap Some (from_zero t))
+    (map_get (λ k. domain.Base t k) (range_with_len 0 (table_at p t).shards) n n (range_get 0 (table_at p t).shards n (lt_of n (table_at p t).shards b.1) ∙ ap Some (from_zero n)))
     in
     in_there p (domain.Base t n) (i.0, get_later _ (view_shards p) i.0 (domain.Base t n) (get_later (base_shards p) (stage_shards p) i.0 (domain.Base t n) i.1))
 had_there p (domain.Stage n) h =
-    let i = in_right (domain.Stage n) (base_shards p) (stage_shards p) n (map_get (λ k. domain.Stage k) (range_with_len 0 p.stages) n n (range_get 0 p.stages n (less_is n p.stages h) ∙ ap Some (from_zero n))) in
+    let i = in_right (domain.Stage n) (base_shards p) (stage_shards p) n (map_get (λ k. domain.Stage k) (range_with_len 0 p.stages) n n (range_get 0 p.stages n (lt_of n p.stages h) ∙ ap Some (from_zero n))) in
     in_there p (domain.Stage n) (i.0, get_later _ (view_shards p) i.0 (domain.Stage n) i.1)
 had_there p (domain.View v n) h =
     let b = both_true (nat_lt v (length p.views)) (nat_lt n (view_at p v).shards) h in
-    let i = in_flat (shards_of_view p) (domain.View v n) (range_with_len 0 (length p.views)) v v n (range_get 0 (length p.views) v (less_is v (length p.views) b.0) ∙ ap Some (from_zero v))
-    (map_get (λ k. domain.View v k) (range_with_len 0 (view_at p v).shards) n n (range_get 0 (view_at p v).shards n (less_is n (view_at p v).shards b.1) ∙ ap Some (from_zero n)))
+    let i = in_flat (shards_of_view p) (domain.View v n) (range_with_len 0 (length p.views)) v v n (range_get 0 (length p.views) v (lt_of v (length p.views) b.0) ∙ ap Some (from_zero v))
+    (map_get (λ k. domain.View v k) (range_with_len 0 (view_at p v).shards) n n (range_get 0 (view_at p v).shards n (lt_of n (view_at p v).shards b.1) ∙ ap Some (from_zero n)))
     in
     in_there p (domain.View v n) (in_right (domain.View v n) _ (view_shards p) i.0 i.1)
 
@@ -138,10 +134,10 @@ view_had p d i j views shards is a lt b =
 pub base_within : (p : Layout) (d : DomainId) (t n : ℕ) → d ≡ domain.Base t n → is_there p d ≡ true → (t < length p.tables) × (n < (table_at p t).shards)
 base_within p d t n is h =
     let b = both_true (nat_lt t (length p.tables)) (nat_lt n (table_at p t).shards) (there_had p (domain.Base t n) (ap (is_there p) (sym is) ∙ h)) in
-    (less_is t (length p.tables) b.0, less_is n (table_at p t).shards b.1)
+    (lt_of t (length p.tables) b.0, lt_of n (table_at p t).shards b.1)
 
 -- ---- view shards
-one_reader : (i j : ℕ) (r : Reader) → is_reader i j r ≡ true → r ≡ record { view = i; shard = j }
+pub one_reader : (i j : ℕ) (r : Reader) → is_reader i j r ≡ true → r ≡ record { view = i; shard = j }
 one_reader i j r h =
     let b = both_true (r.view == i) (r.shard == j) h in
     ap (λ k. record { view = k; shard = r.shard }) (same_is r.view i b.0) ∙ ap (λ k. record { view = i; shard = k }) (same_is r.shard j b.1)

@@ -1,5 +1,5 @@
 mod Alls
-mod Domains
+pub mod Domains
 mod Images
 mod Pushes
 mod Raises

@@ -66,7 +66,7 @@ impl<P: Drop> Model for Inbox<P> {
 }
 
 impl<P: Drop> Inbox<P> {
-    /// Empty queues from so many senders. Errors: memory only.
+    /// Empty queues from this many senders. Errors: memory only.
     fn new(alloc: Global, senders: usize) -> Result<Inbox<P>, AllocError>
         ensures { IfOk result (λ b. b ≡ replicate senders []) }
     {
@@ -117,7 +117,7 @@ impl<P: Drop> Model for Queues<P> {
 }
 
 impl<P: Drop> Queues<P> {
-    /// Empty queues from so many senders to each of so many receivers. Errors: memory only.
+    /// Empty queues from this many senders to each of this many receivers. Errors: memory only.
     pub fn new(alloc: Global, receivers: usize, senders: usize) -> Result<Queues<P>, AllocError>
         ensures { IfOk result (λ q. q ≡ no_queues receivers senders) }
     {

@@ -19,7 +19,8 @@ use Rattle.model.proofs.Growth.{at_most_trans, at_most_none}
 use Rattle.row.specs.declared.refused.Refused.{Refused}
 use Rattle.shown.specs.Snapshots.{Snapshot}
 use Rattle.calls.specs.Writes.{IsAnswer}
-use Rattle.sessions.specs.Inserts.{base_of, first_of, stolen_refusal, call_refusal, IsTaken, IsUntaken, Declines, untaken}
+use Rattle.protocol.specs.WorldSteps.{base_for}
+use Rattle.sessions.specs.Inserts.{first_of, stolen_refusal, call_refusal, IsTaken, IsUntaken, Declines, untaken}
 use Rattle.sessions.specs.Callers.{Caller, IsWrote, accepted_at, whole_cut, IsCaller}
 
 -- ---- what was written, in a longer history
@@ -108,7 +109,7 @@ pub answer_grows : (p : Layout) (seen : List Item) (s m b : ℕ) (e : Change) (r
 answer_grows p seen s m b e r now (inl x) = subst (λ (h : List Item). IsPrefix seen h) (sym x.1) (prefix_self seen)
 answer_grows p seen s m b e r now (inr x) = x.grown
 
-pub untaken_write : (p : Layout) (old new : Caller) (name : List ℕ) (e : Change) (t b : ℕ) (r : Refused) → stolen_refusal old ≡ None → write_refusal p (table_named p name) e ≡ None → table_named p name ≡ Some t → b ≡ base_of p t e → IsUntaken p old new b e r → Declines p old new name e r
+pub untaken_write : (p : Layout) (old new : Caller) (name : List ℕ) (e : Change) (t b : ℕ) (r : Refused) → stolen_refusal old ≡ None → write_refusal p (table_named p name) e ≡ None → table_named p name ≡ Some t → b ≡ base_for p t e → IsUntaken p old new b e r → Declines p old new name e r
 untaken_write p old new name e t b r fresh free named is x =
     let none : call_refusal p old name e ≡ None = ap (λ o. first_of o (write_refusal p (table_named p name) e)) fresh ∙ free in
     untaken none t named (subst (λ (n : ℕ). IsUntaken p old new n e r) is x)

@@ -13,13 +13,13 @@ use Rattle.book.specs.Fronts.{FrontView}
 use Rattle.book.specs.Sessions.{CutView, FloorsView}
 use Rattle.packet.specs.Readers.{Reader, readers}
 use Rattle.protocol.proofs.Lists.{map_get}
-use Rattle.protocol.proofs.Spots.{each_append}
 use Rattle.shown.specs.Snapshots.{Snapshot, IsLater}
 use Rattle.sessions.specs.Callers.{reader_of, whole_cut}
 use Rattle.sessions.specs.Sights.{HasAll, IsCut, IsCutAt}
 use Rattle.sessions.proofs.Callers.{whole_later}
 use Rattle.sessions.proofs.Shards.{once, readers_apart}
 use Rattle.sessions.proofs.Later.{reader_same, sight_of}
+use Rattle.plan.proofs.OwnTexts.{each_join}
 
 -- ---- one place set
 set_or : {X : Type 0} (xs : List X) (i : ℕ) (x d : X) (k : ℕ) → ((k ≡ i) × (slice_index_or (slice_set xs i x) k d ≡ x)) ⊎ (slice_index_or (slice_set xs i x) k d ≡ slice_index_or xs k d)
@@ -77,7 +77,7 @@ module _ (p : Layout) (fs : List FrontView) (shown : List Snapshot) (i v j : ℕ
       → IsAtMost y.lengths (whole_cut p new.seen) → HasAll p fs y.lengths → Each (IsCut p fs old) (take i shown) → Each (IsCut p fs new) (take (suc i) (slice_set shown i y))
   cuts_next are at lv lj there later table set grown reached all each =
       subst (Each (IsCut p fs new)) (sym (take_set shown i x y there))
-      (each_append (IsCut p fs new) (take i shown) (y ∷ []) (each_take (IsCut p fs old) (IsCut p fs new) shown i before each) (it, tt))
+      (each_join (IsCut p fs new) (take i shown) (y ∷ []) (each_take (IsCut p fs old) (IsCut p fs new) shown i before each) (it, tt))
     where
       of : reader_of y ≡ record { view = v; shard = j }
       of = reader_same x y later ∙ sight_of p shown are i v j x there at

@@ -22,6 +22,7 @@ use Rattle.sessions.specs.Sights.{HasAll, IsCovering, IsCut}
 use Rattle.sessions.proofs.Callers.{wrote_later, wrote_within, caller_later, whole_later}
 use Rattle.sessions.proofs.Cuts.{each_get}
 use Rattle.sessions.proofs.Later.{all_self, sight_in}
+use Rattle.plan.proofs.OwnTexts.{each_join}
 
 abbrev pub bases_of : List FrontView → List ℕ
 bases_of fs = map (λ (f : FrontView). f.base) fs
@@ -52,13 +53,9 @@ length_at p h fs d s j is each all ls lj =
     omega (arith, low, high, logs_at h (sources p) j lj)
 
 -- ---- places
-each_both : {B : Type 0} (Q : B → Type 0) (ys zs : List B) → Each Q ys → Each Q zs → Each Q (ys ++ zs)
-each_both Q [] zs a b = b
-each_both Q (y ∷ ys) zs a b = (a.0, each_both Q ys zs a.1 b)
-
 each_flat : {A B : Type 0} (P : A → Type 0) (Q : B → Type 0) (f : A → List B) → ((a : A) → P a → Each Q (f a)) → (xs : List A) → Each P xs → Each Q (flat_map f xs)
 each_flat P Q f step [] each = tt
-each_flat P Q f step (x ∷ xs) each = each_both Q (f x) (flat_map f xs) (step x each.0) (each_flat P Q f step xs each.1)
+each_flat P Q f step (x ∷ xs) each = each_join Q (f x) (flat_map f xs) (step x each.0) (each_flat P Q f step xs each.1)
 
 record IsSource (p : Layout) (b : ℕ) : Type 0 where
   pub source : ℕ

@@ -1,5 +1,5 @@
 -- What one look finds, and the sessions that a call leaves so.
-use Rattle.std.proofs.Common.{◌≡◌, ◌⊎◌, ℕ, zero, suc, ◌<◌, true, List, [], ◌∷◌, map, length, get_or, slice_get, slice_set, position, Option, Some, None, Result, Ok, Err, IfOk, IfErr, IfSome, OnOk, refl, ap, sym, ◌∙◌, subst, arith, inl, inr}
+use Rattle.std.proofs.Common.{◌≡◌, ◌⊎◌, ℕ, zero, suc, ◌<◌, List, [], ◌∷◌, map, length, get_or, slice_get, slice_set, position, Option, Some, None, Result, Ok, Err, IfOk, IfErr, IfSome, OnOk, refl, ap, sym, ◌∙◌, subst, arith, inl, inr}
 use Rattle.std.proofs.lemmas.List.{length-map}
 use Rattle.row.specs.Cells.{Cells, datum_of}
 use Rattle.row.specs.declared.refused.Refused.{Refused}
@@ -13,7 +13,7 @@ use Rattle.book.specs.Sessions.{CutView, fronts}
 use Rattle.packet.specs.Readers.{Reader, is_reader, readers}
 use Rattle.packet.specs.declared.reader.Reader.{Reader as Code}
 use Rattle.schedule.specs.Codes.{reader_in}
-use Rattle.protocol.proofs.Spots.{is_found, is_same}
+use Rattle.protocol.proofs.Spots.{is_found, reader_passes, reader_in as reader_is_in}
 use Rattle.shown.specs.Looks.{OnHit, OnMiss}
 use Rattle.shown.specs.Snapshots.{Snapshot, IsLater, IsTrue, shown_at}
 use Rattle.shown.specs.declared.reader.Look.{Look}
@@ -24,7 +24,6 @@ use Rattle.sessions.specs.Fences.{IsUnfenced}
 use Rattle.sessions.specs.Sights.{Finds, IsCutAt}
 use Rattle.sessions.proofs.Later.{all_readers, all_self, all_set, reader_same, sight_of, sight_within}
 use Rattle.sessions.proofs.Looks.{looked_again, looked_undone}
-use Rattle.sessions.proofs.Shards.{reader_in_all}
 use Rattle.protocol.proofs.Lists.{set_at}
 
 -- ---- places
@@ -38,12 +37,9 @@ got_code [] n r at = cc
 got_code (x ∷ xs) zero r at = (x, refl, cc)
 got_code (x ∷ xs) (suc n) r at = got_code xs n r at
 
-reader_passes : (i j : ℕ) → is_reader i j (record { view = i; shard = j }) ≡ true
-reader_passes i j = rw (is_same i) (is_same j)
-
 pub place_there : (p : Layout) (xs : List Code) (i j : ℕ) → map reader_in xs ≡ readers p → i < length p.views → j < (view_at p i).shards → (n : ℕ) × (position (λ r. is_reader i j (reader_in r)) xs ≡ Some n)
 place_there p xs i j are lt lj =
-    let r = reader_in_all p i j lt lj in
+    let r = reader_is_in p i j lt lj in
     let c = got_code xs r.0 (record { view = i; shard = j }) (ap (λ rs. slice_get rs r.0) are ∙ r.1) in
     is_found (λ r. is_reader i j (reader_in r)) xs r.0 c.0 c.1 (ap (is_reader i j) c.2 ∙ reader_passes i j)
 

@@ -10,8 +10,9 @@ use Rattle.packet.specs.Readers.{Reader, readers}
 use Rattle.shown.specs.Snapshots.{Snapshot, IsLater}
 use Rattle.shown.proofs.Rises.{later_self, later_trans}
 use Rattle.protocol.proofs.Lists.{map_get}
-use Rattle.sessions.proofs.Shards.{once, reader_in_all, readers_apart}
+use Rattle.sessions.proofs.Shards.{once, readers_apart}
 use Rattle.sessions.specs.Callers.{AreLater, IsAbove, IsSight, reader_of}
+use Rattle.protocol.proofs.Spots.{reader_in}
 
 pub all_self : (xs : List Snapshot) → AreLater xs xs
 all_self [] = tt
@@ -78,7 +79,7 @@ module _ (p : Layout) (shown : List Snapshot) (are : map reader_of shown ≡ rea
   -- each shard of each view has one
   pub sight_in : (v j : ℕ) → v < length p.views → j < (view_at p v).shards → (s : Snapshot) × IsSight shown v j s
   sight_in v j lv lj =
-      let r = reader_in_all p v j lv lj in
+      let r = reader_in p v j lv lj in
       let s = sight_at r.0 (record { view = v; shard = j }) r.1 in
       (s.0, sight_is r.0 v j s.0 s.1 r.1)
 

@@ -1,5 +1,5 @@
 -- The shards of all views: each stands once among the readers, and each is there.
-use Rattle.std.proofs.Common.{◌≡◌, ◌≢◌, ℕ, zero, suc, ◌+◌, ◌<◌, ◌≤◌, ◌==◌, true, List, [], ◌∷◌, ◌++◌, map, flat_map, length, slice_get, position, Some, refl, ap, sym, ◌∙◌, subst, arith}
+use Rattle.std.proofs.Common.{◌≡◌, ◌≢◌, ℕ, zero, suc, ◌+◌, ◌<◌, ◌≤◌, List, [], ◌∷◌, ◌++◌, map, flat_map, length, slice_get, position, Some, refl, ap, sym, ◌∙◌, subst, arith}
 use Rattle.std.specs.List.{range_with_len}
 use Rattle.row.specs.Bags.{Each}
 use Rattle.plan.specs.Layouts.{Layout, view_at}
@@ -7,7 +7,9 @@ use Rattle.packet.specs.Readers.{Reader, is_reader, readers, readers_of}
 use Rattle.schedule.specs.Codes.{reader_in}
 use Rattle.packet.specs.declared.reader.Reader.{Reader as Code}
 use Rattle.protocol.proofs.Lists.{each_at, each_map, each_to, map_get}
-use Rattle.protocol.proofs.Spots.{IsIn, each_append, each_range, found, is_same, in_flat, range_get, same_is, both_true}
+use Rattle.protocol.proofs.Spots.{each_range, found}
+use Rattle.schedule.proofs.Domains.{one_reader}
+use Rattle.plan.proofs.OwnTexts.{each_join}
 
 -- two shards are not one
 abbrev pub Differs : Reader → Reader → Type 0
@@ -20,7 +22,7 @@ AreApart (r ∷ rs) = Each (Differs r) rs × AreApart rs
 
 apart_append : (xs ys : List Reader) → AreApart xs → AreApart ys → Each (λ x. Each (Differs x) ys) xs → AreApart (xs ++ ys)
 apart_append [] ys a b h = b
-apart_append (x ∷ xs) ys a b h = (each_append (Differs x) xs ys a.0 h.0, apart_append xs ys a.1 b h.1)
+apart_append (x ∷ xs) ys a b h = (each_join (Differs x) xs ys a.0 h.0, apart_append xs ys a.1 b h.1)
 
 -- those of one view
 apart_shards : (i a n : ℕ) → AreApart (map (λ j. record { view = i; shard = j }) (range_with_len a n))
@@ -42,7 +44,7 @@ of_view p i = by (range_with_len 0 (view_at p i).shards)
 of_later : (p : Layout) (a n : ℕ) → Each (λ (r : Reader). a ≤ r.view) (flat_map (readers_of p) (range_with_len a n))
 of_later p a zero = tt
 of_later p a (suc n) =
-    each_append (λ (r : Reader). a ≤ r.view) (readers_of p a) (flat_map (readers_of p) (range_with_len (a + 1) n))
+    each_join (λ (r : Reader). a ≤ r.view) (readers_of p a) (flat_map (readers_of p) (range_with_len (a + 1) n))
     (each_to (λ (r : Reader). r.view ≡ a) (λ (r : Reader). a ≤ r.view) (λ r e. omega (arith, e)) (readers_of p a) (of_view p a))
     (each_to (λ (r : Reader). a + 1 ≤ r.view) (λ (r : Reader). a ≤ r.view) (λ r le. omega (arith, le)) (flat_map (readers_of p) (range_with_len (a + 1) n)) (of_later p (a + 1) n))
 
@@ -65,19 +67,6 @@ once (q ∷ rs) zero (suc m) r a x y = absurd (each_at (Differs q) rs m r y a.0 
 once (q ∷ rs) (suc n) zero r a x y = absurd (each_at (Differs q) rs n r x a.0 cc)
 once (q ∷ rs) (suc n) (suc m) r a x y = ap suc (once rs n m r a.1 x y)
 
--- each shard of each view is there
-pub reader_in_all : (p : Layout) (i j : ℕ) → i < length p.views → j < (view_at p i).shards → IsIn (record { view = i; shard = j }) (readers p)
-reader_in_all p i j lt lj =
-    let e : 0 + i ≡ i = omega arith in
-    let f : 0 + j ≡ j = omega arith in
-    in_flat (readers_of p) (record { view = i; shard = j }) (range_with_len 0 (length p.views)) i i j (range_get 0 (length p.views) i lt ∙ ap Some e)
-    (map_get (λ k. record { view = i; shard = k }) (range_with_len 0 (view_at p i).shards) j j (range_get 0 (view_at p i).shards j lj ∙ ap Some f))
-
-one_reader : (i j : ℕ) (r : Reader) → is_reader i j r ≡ true → r ≡ record { view = i; shard = j }
-one_reader i j r h =
-    let b = both_true (r.view == i) (r.shard == j) h in
-    ap (λ k. record { view = k; shard = r.shard }) (same_is r.view i b.0) ∙ ap (λ k. record { view = i; shard = k }) (same_is r.shard j b.1)
-
 map_got : (xs : List Code) (n : ℕ) (c : Code) → slice_get xs n ≡ Some c → slice_get (map reader_in xs) n ≡ Some (reader_in c)
 map_got xs n c at = map_get reader_in xs n c at
 
@@ -86,10 +75,6 @@ pub place_found : (p : Layout) (xs : List Code) (i j n : ℕ) → map reader_in 
 place_found p xs i j n are e =
     let f = found (λ r. is_reader i j (reader_in r)) xs n e in
     ap (λ rs. slice_get rs n) (sym are) ∙ (map_got xs n f.it f.at ∙ ap Some (one_reader i j (reader_in f.it) f.passes))
-
--- and it is found
-reader_passes : (i j : ℕ) → is_reader i j (record { view = i; shard = j }) ≡ true
-reader_passes i j = rw (is_same i) (is_same j)
 
 -- ---- ranges
 shards_there : (p : Layout) (i : ℕ) → Each (λ (r : Reader). (r.view ≡ i) × (r.shard < (view_at p i).shards)) (readers_of p i)
@@ -104,7 +89,7 @@ IsThere p r = (r.view < length p.views) × (r.shard < (view_at p r.view).shards)
 readers_there : (p : Layout) (a n : ℕ) → a + n ≤ length p.views → Each (IsThere p) (flat_map (readers_of p) (range_with_len a n))
 readers_there p a zero le = tt
 readers_there p a (suc n) le =
-    each_append (IsThere p) (readers_of p a) (flat_map (readers_of p) (range_with_len (a + 1) n))
+    each_join (IsThere p) (readers_of p a) (flat_map (readers_of p) (range_with_len (a + 1) n))
     (each_to (λ (r : Reader). (r.view ≡ a) × (r.shard < (view_at p a).shards)) (IsThere p) (λ r h. (omega (arith, h.0, le), subst (λ v. r.shard < (view_at p v).shards) (sym h.0) h.1)) (readers_of p a) (shards_there p a))
     (readers_there p (a + 1) n (omega (arith, le)))
 

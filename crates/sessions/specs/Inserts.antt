@@ -5,19 +5,15 @@ use Rattle.row.specs.declared.refused.Refused.{Refused}
 use Rattle.row.specs.declared.refused.Refused.TheVariants.{NoMemory, Stopped, Stolen}
 use Rattle.plan.specs.Layouts.{Layout, table_at, table_named}
 use Rattle.model.specs.Logs.{Change, key_of}
-use Rattle.model.specs.Places.{base_at}
 use Rattle.model.specs.Histories.{write}
 use Rattle.model.specs.Legal.{IsLegal}
 use Rattle.model.specs.Refusals.{write_refusal}
 use Rattle.book.specs.Replies.{IsAfter}
-use Rattle.base_domain.specs.Received.{last_number}
+use Rattle.protocol.specs.Bases.{last_number}
+use Rattle.protocol.specs.WorldSteps.{base_for}
 use Rattle.calls.specs.Writes.{IsAnswer}
 use Rattle.sessions.specs.Callers.{Caller, accepted_at}
 use Rattle.sessions.specs.declared.session.Accepted.{Accepted}
-
--- the base shard of the table in which the entry stands
-abbrev pub base_of : Layout → ℕ → Change → ℕ
-base_of p t e = base_at p t (shard (key_of (table_at p t).key e) (table_at p t).shards)
 
 -- the first of the two refusals that is there
 abbrev pub first_of : Option Refused → Option Refused → Option Refused
@@ -42,7 +38,7 @@ pub record IsTaken (old new : Caller) (b : ℕ) (e : Change) (k : ℕ) : Type 0 
 pub record Accepts (p : Layout) (old new : Caller) (name : List ℕ) (e : Change) (a : Accepted) : Type 0 where
   pub table : table_named p name ≡ Some a.table
   pub shard : a.shard ≡ shard (key_of (table_at p a.table).key e) (table_at p a.table).shards
-  pub taken : IsTaken old new (base_of p a.table e) e a.index
+  pub taken : IsTaken old new (base_for p a.table e) e a.index
 
 -- a write that is not accepted leaves the floors and what was accepted; and all that was seen, but where the log decides
 pub record IsRefused (old new : Caller) : Type 0 where
@@ -58,7 +54,7 @@ pub record IsUntaken (p : Layout) (old new : Caller) (b : ℕ) (e : Change) (r :
 -- the same, of the table that was named, or the call was refused for what it asks and nothing changed
 pub data Declines (p : Layout) (old new : Caller) (name : List ℕ) (e : Change) (r : Refused) : Type 0 where
   asked : call_refusal p old name e ≡ Some r → new ≡ old → Declines p old new name e r
-  untaken : call_refusal p old name e ≡ None → (t : ℕ) → table_named p name ≡ Some t → IsUntaken p old new (base_of p t e) e r → Declines p old new name e r
+  untaken : call_refusal p old name e ≡ None → (t : ℕ) → table_named p name ≡ Some t → IsUntaken p old new (base_for p t e) e r → Declines p old new name e r
 
 -- what a write to the named table comes to, of so many sessions: what was seen is legal, a session that is spent answers Stolen and stays, and else the write is refused for what it asks, accepted, or declined
 pub record Writes (p : Layout) (sessions : ℕ) (old new : Caller) (name : List ℕ) (e : Change) (r : Result Accepted Refused) : Type 0 where

@@ -81,13 +81,13 @@ pub record Misses (p : Layout) (old new : Caller) (name : List ℕ) (k : Datum) 
   pub named : view_named p name ≡ Some view
   pub missed : IsMissed p old new view k
 
--- a call that is refused leaves the floors and what was accepted; and all that was seen, where the refusal is of the store; where the word was moved by another, what was then seen has more items of the session than it had answered
+-- a call that is refused leaves the floors and what was accepted; and all that was seen, where the refusal is of the store; where the word was moved by another, what was then seen has more reads and fences of the session than it had answered
 pub record IsUndone (p : Layout) (OfStore : Refused → Type 0) (old new : Caller) (r : Refused) : Type 0 where
   pub after : new ≡ record old { number = new.number; stolen = new.stolen; seen = new.seen; shown = new.shown }
   pub looked : AreLater old.shown new.shown
   pub number : (new.number ≡ old.number) ⊎ (new.number ≡ old.number + 1)
   pub grown : IsPrefix old.seen new.seen
-  pub why : OfStore r × (new.seen ≡ old.seen) × (new.stolen ≡ old.stolen) ⊎ (r ≡ Stolen) × (new.stolen ≡ true) × (old.answered < own_items p old.session new.seen)
+  pub why : (OfStore r × (new.seen ≡ old.seen) × (new.stolen ≡ old.stolen)) ⊎ ((r ≡ Stolen) × (new.stolen ≡ true) × (old.answered < own_items p old.session new.seen))
 
 -- a read is refused so
 abbrev pub IsUnread : Layout → Caller → Caller → Refused → Type 0
@@ -95,7 +95,7 @@ IsUnread p old new r = IsUndone p (λ e. e ≡ NoMemory) old new r
 
 -- a read that waits is refused so too, or it has only looked
 abbrev pub IsUnanswered : Layout → Caller → Caller → Refused → Type 0
-IsUnanswered p old new r = IsUnread p old new r ⊎ ((r ≡ Stopped) ⊎ (r ≡ Busy)) × HasLooked old new
+IsUnanswered p old new r = IsUnread p old new r ⊎ (((r ≡ Stopped) ⊎ (r ≡ Busy)) × HasLooked old new)
 
 -- what a try of a read of the named view comes to, of so many sessions: what was seen is legal, and it is refused for what it asks, a hit, a miss, or refused so
 pub record Tries (p : Layout) (sessions : ℕ) (old new : Caller) (name : List ℕ) (k : Datum) (r : Result Found Refused) : Type 0 where

@@ -40,7 +40,7 @@ impl<T: Absorb<O> + Drop, O: Drop, V, P: Protocol<T, V>, R: Wait + Drop> Drop
 pub type ShownWriter<J, R> = Board<Shown<J>, Delta<J>, Sight, Published, R>;
 
 /// The shown copy of a shard of a view, by the one right to it: it shows no key, over no entries,
-/// and has places for so many readers. Errors: memory only.
+/// and has places for this many readers. Errors: memory only.
 pub fn open<J: Naming, R: Wait + Drop>(
     rt: R,
     alloc: Global,

@@ -13,7 +13,7 @@ use Rattle.packet.specs.Messages.{BasePacketView}
 use Rattle.packet.specs.declared.mode.Mode.{Mode}
 use Rattle.packet.specs.declared.mode.Mode.TheVariants as mode
 use Rattle.stage_domain.specs.Domains.{log_of}
-use Rattle.stage_steps.proofs.Lines.{prefix_taken}
+use Rattle.protocol.proofs.Within.{prefix_take}
 
 -- what runs is not broken
 pub running_whole : (m : Mode) → m ≡ mode.Running → m ≢ mode.Broken
@@ -42,7 +42,7 @@ starts_at line j l from to n m at agree grows is_n is_m = (
       let e : n ≡ m = grind (arith, nat_tests) in
       let count : length l.entries ≡ length from = sym is_n ∙ (e ∙ is_m) in
       let small : length l.entries ≤ length to = let le = prefix_length from to grows in omega (arith, count, le) in
-      let held : l.entries ≡ from = sym (agree.first small) ∙ (ap (λ k. take k to) count ∙ prefix_taken from to grows) in
+      let held : l.entries ≡ from = sym (agree.first small) ∙ (ap (λ k. take k to) count ∙ prefix_take from to grows) in
       entries_at line j l at ∙ ap Some held),
   (λ next.
       let both : Some l.entries ≡ Some from = sym (entries_at line j l at) ∙ next in

@@ -1,12 +1,12 @@
 -- What records of one source change of the output at a key of a view that is not evicted.
-use Rattle.std.proofs.Common.{◌≡◌, ℕ, ◌<◌, Bool, true, false, not, cond, ◌&&◌, List, [], ◌∷◌, filter, length, drop, Option, Some, None, refl, ap, sym, ◌∙◌, subst, arith, true≢false}
+use Rattle.std.proofs.Common.{◌≡◌, ℕ, ◌<◌, Bool, true, false, cond, ◌&&◌, List, [], ◌∷◌, filter, length, drop, Option, Some, None, refl, ap, sym, ◌∙◌, subst, arith, true≢false}
 use Rattle.std.specs.Global.{Global}
 use Rattle.row.specs.Bags.{Each, IsAlike, IsAscending, sorted}
 use Rattle.row.specs.Cells.{Cells, Datum, cell_at, datum_of, has, row_cmp}
 use Rattle.row.specs.Changes.{Turns}
 use Rattle.row.specs.declared.record.Record.{Record}
 use Rattle.row.specs.declared.value.Value.{Value}
-use Rattle.row.proofs.BagLemmas.{Each-at, Each-weaker}
+use Rattle.row.proofs.BagLemmas.{Each-at, Each-weaker, not_true}
 use Rattle.row.proofs.RecordLaws.{Turns-filter}
 use Rattle.row.proofs.Alike.{filter_alike}
 use Rattle.row.specs.CellOrder.{row_total, row_same}
@@ -66,10 +66,6 @@ named_here keys x can h = by (is_of keys x) refl
     by : (b : Bool) → is_of keys x ≡ b → is_of keys x ≡ false
     by false e = e
     by true e = absurd (true≢false (sym (ap (λ b. b && can_name x) e ∙ can) ∙ h))
-
-not_true : (b : Bool) → not b ≡ true → b ≡ false
-not_true true h = absurd (true≢false (sym h))
-not_true false h = refl
 
 -- ---- the output of what is held
 module _ (p : Layout) (s : ℕ) (i : ℕ) (k : Datum) where

@@ -29,7 +29,7 @@ use Rattle.stage_steps.specs.Told.{answer_of}
 use Rattle.stage_steps.proofs.Appends.{append_nothing}
 use Rattle.stage_steps.proofs.Goes.{for_none}
 use Rattle.stage_steps.proofs.Puts.{after, no_asks, put_after, put_quiet}
-use Rattle.protocol.proofs.Spots.{each_append}
+use Rattle.plan.proofs.OwnTexts.{each_join}
 use Rattle.stage_steps.proofs.Untold.{knows_is}
 
 module _ (p : Layout) (s : ℕ) (line : Line) (a : Ask) where
@@ -130,5 +130,5 @@ later_whole x a pending whole there more = record {
   fronts = whole.fronts;
   senders = whole.senders;
   rows = whole.rows;
-  pending = subst (λ as_. Each (λ (a : Ask). view_of a.tag < length x.plan.views) as_) (sym more) (each_append (λ (a : Ask). view_of a.tag < length x.plan.views) x.pending (a ∷ []) whole.pending (there, tt));
+  pending = subst (λ as_. Each (λ (a : Ask). view_of a.tag < length x.plan.views) as_) (sym more) (each_join (λ (a : Ask). view_of a.tag < length x.plan.views) x.pending (a ∷ []) whole.pending (there, tt));
 }

@@ -12,7 +12,6 @@ use Rattle.plan.specs.Layouts.{Layout, view_at}
 use Rattle.model.specs.Places.{sources}
 use Rattle.model.specs.Queries.{Line}
 use Rattle.packet.specs.Keys.{Keys, Stand, open_at, with_stand}
-use Rattle.packet.proofs.Ascending.{flipped}
 use Rattle.packet.specs.Lines.{entries_of}
 use Rattle.packet.specs.Messages.{Sent, none_of}
 use Rattle.packet.specs.Named.{for_each, named}
@@ -29,8 +28,9 @@ use Rattle.stage_steps.specs.Shards.{IsPut, IsTo, Shard, gone_names, gone_to, st
 use Rattle.stage_steps.specs.Told.{evicts_at, is_told, perhaps, told, told_if}
 use Rattle.stage_steps.proofs.Puts.{after, no_asks, put_after, put_quiet}
 use Rattle.stage_steps.proofs.Wholes.{keys_by}
-use Rattle.protocol.proofs.Spots.{each_append}
 use Rattle.stage_steps.proofs.Untold.{evicts_are}
+use Rattle.plan.proofs.OwnTexts.{each_join}
+use Rattle.row.proofs.Keys.{same_flip}
 
 pub for_none : {X : Type 0} (f : Option (List Datum) → Reader → X) (rs : List Reader) → for_each f None rs ≡ map (f None) rs
 for_none f [] = refl
@@ -46,7 +46,7 @@ views_below : (p : Layout) (m a n : ℕ) → a + n ≡ m → Each (λ (r : Reade
 views_below p m a zero at = tt
 views_below p m a (suc n) at =
     let below : a < m = omega (arith, at) in
-    each_append (λ (r : Reader). r.view < m) (readers_of p a) (flat_map (readers_of p) (range_with_len (a + 1) n)) (of_view (λ (r : Reader). r.view < m) a (range_with_len 0 (view_at p a).shards) (λ j. below)) (views_below p m (a + 1) n (omega (arith, at)))
+    each_join (λ (r : Reader). r.view < m) (readers_of p a) (flat_map (readers_of p) (range_with_len (a + 1) n)) (of_view (λ (r : Reader). r.view < m) a (range_with_len 0 (view_at p a).shards) (λ j. below)) (views_below p m (a + 1) n (omega (arith, at)))
 
 readers_below : (p : Layout) → Each (λ (r : Reader). r.view < length p.views) (readers p)
 readers_below p = views_below p (length p.views) 0 (length p.views) (omega arith)
@@ -136,7 +136,7 @@ removed_none k (d ∷ ds) e = step (same d k) refl e (removed_none k ds)
   where
     step : (b : Bool) → same d k ≡ b → (b || list_any (λ y. same y k) ds) ≡ false → (list_any (λ y. same y k) ds ≡ false → remove_key (same k) ds ≡ ds) → cond (same k d) ds (d ∷ remove_key (same k) ds) ≡ d ∷ ds
     step true is e rest = cc
-    step false is e rest = rw (flipped k d ∙ is) (ap (λ l. d ∷ l) (rest e))
+    step false is e rest = rw (same_flip k d ∙ is) (ap (λ l. d ∷ l) (rest e))
 
 at_stays : (k : Datum) (keys : Keys) → is_filled (keys.at k) ≡ false → (x : Datum) → with_stand k (evicted None (keys.at k)) keys x ≡ keys.at x
 at_stays k keys e x = step (same k x) refl

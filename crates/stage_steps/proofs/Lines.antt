@@ -1,7 +1,6 @@
 -- Lines of fronts of a plan.
-use Rattle.std.proofs.Common.{◌≡◌, ℕ, ◌<◌, List, [], ◌∷◌, ◌++◌, length, map, take, Option, None, refl, ap, sym, ◌∙◌, arith, length-append}
+use Rattle.std.proofs.Common.{◌≡◌, ℕ, ◌<◌, List, [], ◌∷◌, ◌++◌, length, map, take, Option, None, refl, ap, arith, length-append}
 use Rattle.std.proofs.lemmas.List.FromFn.{length-range_with_len}
-use mathlib.Core.List.{IsPrefix}
 use Rattle.row.proofs.BagLemmas.{Each-at}
 use Rattle.row.specs.Cells.{Datum, datum_of}
 use Rattle.row.specs.declared.record.Record.{Record}
@@ -16,6 +15,7 @@ use Rattle.packet.specs.declared.reader.Reader.{Reader}
 use Rattle.packet.specs.declared.request.Marker.{Marker}
 use Rattle.packet.specs.declared.stage_packet.Content.{Content}
 use Rattle.stage_steps.specs.Told.{evicts_at, keyed_at, told, told_changes}
+use Rattle.protocol.proofs.Within.{prefix_take}
 
 -- the stage has a source
 pub some_source : (p : Layout) → Facts p → 0 < length (sources p)
@@ -36,14 +36,11 @@ taken : {X : Type 0} (xs rest : List X) → take (length xs) (xs ++ rest) ≡ xs
 taken [] rest = refl
 taken (x ∷ xs) rest = ap (λ t. x ∷ t) (taken xs rest)
 
-pub prefix_taken : {X : Type 0} (xs ys : List X) → IsPrefix xs ys → take (length xs) ys ≡ xs
-prefix_taken xs ys h = ap (take (length xs)) (sym h.1) ∙ taken xs h.0
-
 -- so many entries of each of the longer fronts are the shorter ones
 pub shorter_is : (from to : List LogView) → Grows (entries_of from) (entries_of to) → fronts_to (lengths_of from) (entries_of to) ≡ entries_of from
 shorter_is [] to h = refl
 shorter_is (f ∷ from) [] h = absurd h
-shorter_is (f ∷ from) (t ∷ to) h = rw (prefix_taken f.entries t.entries h.0, shorter_is from to h.1) refl
+shorter_is (f ∷ from) (t ∷ to) h = rw (prefix_take f.entries t.entries h.0, shorter_is from to h.1) refl
 
 -- a packet of these parts
 pub same_packet : (p : Layout) (s : ℕ) (r : Reader) (lengths : List ℕ) (from to again : List LogView) (records : List Record) (names : List (List Datum)) (m : Option Marker) (c : Content) → plan_of to ≡ p → again ≡ to → lengths ≡ lengths_of from → Grows (entries_of from) (entries_of to)

@@ -1,5 +1,5 @@
 -- The step of an entry, as the protocol says it.
-use Rattle.std.proofs.Common.{◌≡◌, ℕ, ◌+◌, ◌<◌, true, List, [], ◌∷◌, map, flat_map, length, Option, None, slice_set, refl, ap, sym, ◌∙◌, subst, arith}
+use Rattle.std.proofs.Common.{◌≡◌, ℕ, ◌+◌, ◌<◌, true, List, [], ◌∷◌, map, length, Option, None, slice_set, refl, ap, sym, ◌∙◌, subst, arith}
 use Rattle.std.specs.List.{range_with_len}
 use Rattle.row.specs.Bags.{Each}
 use Rattle.row.specs.Cells.{Cells}
@@ -14,7 +14,7 @@ use Rattle.packet.specs.Readers.{Reader, readers, readers_of}
 use Rattle.packet.specs.Truth.{Pointwise, sent_of}
 use Rattle.protocol.specs.Stages.{Done, Stage, keys_for}
 use Rattle.protocol.specs.StageSteps.{append_each, entry_taken, moved, next, unknown}
-use Rattle.protocol.proofs.Spots.{each_append, each_range}
+use Rattle.protocol.proofs.Spots.{each_range}
 use Rattle.right_rows.specs.Rights.{keys_in}
 use Rattle.stage_steps.specs.Outboxes.{AreEdges, OutboxView}
 use Rattle.stage_steps.specs.Shards.{IsPut, IsTo, Shard, entry_names, seen, stage_of}
@@ -22,12 +22,9 @@ use Rattle.stage_steps.specs.Sides.{names_of}
 use Rattle.stage_steps.specs.Told.{perhaps, told_if}
 use Rattle.stage_steps.proofs.Puts.{after, no_asks, put_after}
 use Rattle.stage_steps.proofs.Untold.{evicts_are}
+use Rattle.protocol.proofs.Owns.{each_flat}
 
 -- ---- each reader is of a view of the plan
-each_flat : {X Y : Type 0} (P : Y → Type 0) (f : X → List Y) (xs : List X) → Each (λ x. Each P (f x)) xs → Each P (flat_map f xs)
-each_flat P f [] h = tt
-each_flat P f (x ∷ xs) h = each_append P (f x) (flat_map f xs) h.0 (each_flat P f xs h.1)
-
 of_view : (n i : ℕ) (js : List ℕ) → i < n → Each (λ (r : Reader). r.view < n) (map (λ j. record { view = i; shard = j }) js)
 of_view n i [] lt = tt
 of_view n i (j ∷ js) lt = (lt, of_view n i js lt)

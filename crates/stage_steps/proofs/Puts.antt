@@ -13,7 +13,7 @@ use Rattle.protocol.specs.StageSteps.{append_each, quiet}
 use Rattle.stage_steps.specs.Outboxes.{AreEdges, OutboxView}
 use Rattle.stage_steps.specs.Shards.{IsPut, IsTo, Shard, stage_of}
 use Rattle.stage_steps.proofs.Appends.{append_nothing}
-use Rattle.protocol.proofs.Spots.{each_append}
+use Rattle.plan.proofs.OwnTexts.{each_join}
 
 map_append_each : {X Y : Type 0} (f : X → Y) (xss yss : List (List X)) → map (map f) (append_each xss yss) ≡ append_each (map (map f) xss) (map (map f) yss)
 map_append_each f [] yss = refl
@@ -26,7 +26,7 @@ pointwise_append P [] [] (ys ∷ yss) h k = absurd k
 pointwise_append P [] (xs ∷ xss) yss h k = absurd h
 pointwise_append P (r ∷ rs) [] yss h k = absurd h
 pointwise_append P (r ∷ rs) (xs ∷ xss) [] h k = absurd k
-pointwise_append P (r ∷ rs) (xs ∷ xss) (ys ∷ yss) h k = (each_append (P r) xs ys h.0 k.0, pointwise_append P rs xss yss h.1 k.1)
+pointwise_append P (r ∷ rs) (xs ∷ xss) (ys ∷ yss) h k = (each_join (P r) xs ys h.0 k.0, pointwise_append P rs xss yss h.1 k.1)
 
 -- this part of a step, behind what was put out
 abbrev pub after : Done → Done → Done

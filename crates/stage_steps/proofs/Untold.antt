@@ -35,6 +35,7 @@ use Rattle.stage_steps.specs.Shards.{HoldsRows}
 use Rattle.stage_steps.specs.Sides.{names_of, passing_at, passing_of, source_side}
 use Rattle.stage_steps.specs.Told.{evicts_at, names_in}
 use Rattle.stage_steps.proofs.Names.{set_is}
+use Rattle.protocol.proofs.Owns.{each_first}
 
 -- ---- the protocol's word for these rows
 pub knows_is : (keys : Option Keys) (x : Datum) → is_known x keys ≡ knows keys x
@@ -183,10 +184,6 @@ left_spared c k h (r ∷ rs) e = step (is_here h.right (cell_at r.row h.plan.lef
         → Each (λ (r : Record). is_here h.right (cell_at r.row h.plan.left.key) ≡ false → has c k r.row ≡ false) (r ∷ rs)
     step true i e rest = (λ n. absurd (true≢false (sym i ∙ n)), rest e)
     step false i e rest = (λ n. e.0, rest e.1)
-
-each_first : {X : Type 0} (P : X → Type 0) (xs ys : List X) → Each P (xs ++ ys) → Each P xs × Each P ys
-each_first P [] ys e = (tt, e)
-each_first P (x ∷ xs) ys e = let rest = each_first P xs ys e.1 in ((e.0, rest.0), rest.1)
 
 each_of_filter : (P : Cells → Type 0) (q : Cells → Bool) (xs : List Cells) → Each P (filter q xs) → Each (λ x. q x ≡ true → P x) xs
 each_of_filter P q [] e = tt

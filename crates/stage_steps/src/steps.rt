@@ -389,8 +389,8 @@ impl<'p, F: Fronts> StageShard<'p, F> {
         Ok(())
     }
 
-    /// While no request waits, makes so many stage keys holes that the filled ones are no more than
-    /// the cap, those first that were filled first, and tells each view shard of its keys that have
+    /// While no request waits, makes stage keys holes until the filled ones are no more than the
+    /// cap, those first that were filled first, and tells each view shard of its keys that have
     /// left rows of them. Errors: memory only; then nothing is said of the shard, and some are
     /// told. Cost: that of `tell_gone` for each key that goes.
     fn keep_cap(&mut self, alloc: Global, out: &mut StageOutbox<F>) -> Result<(), AllocError>

@@ -10,3 +10,4 @@ mod AskSteps
 mod Holds
 mod Packets
 pub mod Readers
+pub mod Fresh

@@ -1,8 +1,6 @@
 -- What is kept at each key after a call that changes one.
-use Rattle.std.proofs.Common.{◌≡◌, ℕ, zero, suc, Bool, true, false, cond, ◌++◌, List, [], ◌∷◌, Option, Some, None, map, slice_get, refl, ap, sym, ◌∙◌, subst}
-use Rattle.std.specs.Prelude.{⊤}
+use Rattle.std.proofs.Common.{◌≡◌, ℕ, zero, suc, Bool, true, false, cond, ◌++◌, List, [], ◌∷◌, Option, Some, None, slice_get, refl, ap, sym, ◌∙◌, subst}
 use Rattle.std.proofs.lemmas.List.{append-nil}
-use Rattle.std.specs.Option.{option_map}
 use Rattle.row.specs.Cells.{Datum, Cells, datum_of}
 use Rattle.row.specs.Groups.{equal}
 use Rattle.row.specs.declared.value.Value.{Value}
@@ -11,7 +9,7 @@ use Rattle.partial.specs.declared.partial.Evicted.{Evicted}
 use Rattle.partial.specs.declared.partial.Evicted.TheVariants as said
 use Rattle.packet.specs.Keys.{stand_of, stands_of, has_piece}
 use Rattle.packet.proofs.KeySteps.{Store, state_same}
-use Rattle.packet.proofs.KeptKeys.{stand_is}
+use Rattle.packet.proofs.KeptKeys.{stand_is, blank}
 use Rattle.protocol.specs.ViewSteps.{again}
 use Rattle.view_domain.specs.declared.shown.KeyChange.{KeyChange}
 use Rattle.view_domain.specs.declared.shown.KeyChange.TheVariants.{Goes}
@@ -80,10 +78,6 @@ leads_evicted first cs old new key source what says own others h = by what says
     by said.Nothing e = rw (append-nil cs) (leads_same old new key others first cs (now ∙ sym (by_nothing source (state_of equal old key) e)) h)
     by said.Piece e = rw (append-nil cs) (leads_same old new key others first cs (now ∙ sym (by_piece source (state_of equal old key) e)) h)
     by said.Entry e = leads_push old new (Goes key) others first cs now tt h
-
--- the keys to ask for again
-abbrev blank : List (Option (List Cells)) → List (Option ⊤)
-blank pieces = map (option_map (λ p. tt)) pieces
 
 here_is : (pieces : List (Option (List Cells))) (s : ℕ) → is_here (slice_get (blank pieces) s) ≡ is_here (slice_get pieces s)
 here_is [] s = refl

@@ -1,5 +1,5 @@
 -- A view domain: what it holds is the truth over its cut.
-use Rattle.std.specs.Prelude.{◌≡◌, ◌<◌, ℕ, List, [], map, length}
+use Rattle.std.specs.Prelude.{◌≡◌, ◌<◌, ℕ, List, [], map, length, replicate}
 use Rattle.row.specs.Bags.{Each}
 use Rattle.row.specs.Cells.{Cells, datum_of}
 use Rattle.row.specs.Groups.{equal}
@@ -12,7 +12,8 @@ use Rattle.partial.specs.States.{Kept, state_of}
 use Rattle.partial.specs.Sums.{sum_of_bags}
 use Rattle.partial.specs.Truth.{IsTrueOf}
 use Rattle.packet.specs.Keys.{stands_of}
-use Rattle.packet.specs.Lines.{AreOf, entries_of}
+use Rattle.packet.specs.Lines.{AreOf, empty_line, entries_of}
+use Rattle.packet.specs.Readers.{Reader}
 use Rattle.packet.specs.Marks.{MarksView, complete}
 use Rattle.packet.specs.Truth.{view_shares}
 use Rattle.packet.specs.declared.mode.Mode.{Mode}
@@ -34,6 +35,19 @@ pub record Domain : Type 0 where
 abbrev pub domain_of : Layout → ℕ → ℕ → List (List LogView) → Kept Value (List Cells) → ℕ → MarksView → Mode → Domain
 domain_of plan view shard cut kept asked marks m =
     record { plan = plan; view = view; shard = shard; cut = cut; kept = kept; asked = asked; marks = marks; mode = m }
+
+-- a shard of a view over empty logs, with no key filled
+abbrev pub new_view : Layout → Reader → Domain
+new_view p r = record {
+  plan = p;
+  view = r.view;
+  shard = r.shard;
+  cut = replicate p.stages (empty_line p);
+  kept = record { sources = p.stages; filled = []; waiting = [] };
+  asked = 0;
+  marks = record { senders = p.stages; waiting = [] };
+  mode = mode.Running;
+}
 
 -- the fronts of a cut
 abbrev pub lines_of : List (List LogView) → List Line

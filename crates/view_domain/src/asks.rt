@@ -27,7 +27,7 @@ pub(crate) struct Asks {
     pub(crate) cap: usize,
 }
 
-/// The count of requests with so many more; it stays at the greatest number.
+/// The count of requests with this many more; it stays at the greatest number.
 pub(crate) fn count(asked: u64, more: usize) -> u64
     ensures { result ≡ counted asked more }
 {

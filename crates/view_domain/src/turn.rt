@@ -5,8 +5,8 @@ ghost use Rattle.packet.specs.{Lines.entries_of, Lines.fronts_to, Truth.Pointwis
 use model::fronts::Fronts;
 use packet::line::Line;
 
-/// Whether the first so many entries of a front are those of the front that is held, which is of
-/// the same log. Constant time.
+/// Whether a front's first entries, up to this length, are those of the front that is held, which is
+/// of the same log. Constant time.
 fn is_held<F: Fronts>(from: u64, to: &F, held: &F) -> bool
     requires { F.are_one (F.log held.now) (F.log to.now) }
     ensures { IsTrue result ↔ (take from (F.log to.now).entries ≡ (F.log held.now).entries) }
@@ -15,8 +15,8 @@ fn is_held<F: Fronts>(from: u64, to: &F, held: &F) -> bool
     from.min(to.len()) == held.len()
 }
 
-/// Whether the first so many entries of each front of a line are those of the line that is held,
-/// which is of the same logs. Cost: two lengths of each front.
+/// Whether the first entries of each front of a line, up to these lengths, are those of the line
+/// that is held, which is of the same logs. Cost: two lengths of each front.
 pub(crate) fn starts_at<F: Fronts>(from: &[u64], to: &Line<F>, held: &Line<F>) -> bool
     requires one { Pointwise F.are_one held.now to.now }
     requires count { length to.now ≤ length from.now }

@@ -13,7 +13,7 @@ use Rattle.model.specs.Places.{base_count, layout_of, table_of, shard_of}
 use Rattle.model.specs.Refusals.{refusal, write_refusal}
 use Rattle.model.proofs.LegalSamples.{allowed}
 use Rattle.packet.specs.Messages.{BasePacketView}
-use Rattle.protocol.specs.Bases.{Base, Verdict, accepted, declined, write, next_of, Done}
+use Rattle.protocol.specs.Bases.{last_number, Base, Verdict, accepted, declined, write, next_of, Done}
 use Rattle.protocol.specs.BaseSteps.{step, quiet, decided, with_entry}
 use Rattle.protocol.specs.Events.{Reply, refused}
 use Rattle.protocol.specs.Worlds.{Node, World}
@@ -31,6 +31,7 @@ use Rattle.machine.proofs.Based.{with_base, base_world, own_turn, quiet_placed}
 use Rattle.world.proofs.Fenced.{called}
 use Rattle.machine.proofs.Meeting.{stands}
 use Rattle.machine.proofs.Steps.{rebased, set_are}
+use Rattle.protocol.proofs.Within.{not_past}
 
 -- ---- what a base shard answers
 -- not accepted: its log stays
@@ -110,11 +111,6 @@ size_set [] i x = refl
 size_set (y ∷ xs) zero x = refl
 size_set (y ∷ xs) (suc i) x = ap suc (size_set xs i x)
 
-below : {X : Type 0} (xs : List X) (i : ℕ) (x : X) → slice_get xs i ≡ Some x → i < length xs
-below [] i x at = cc
-below (y ∷ xs) zero x at = omega (arith)
-below (y ∷ xs) (suc i) x at = let h = below xs i x at in omega (arith, h)
-
 -- an entry of the session is the last one in base shard b's log then
 module _ (nodes : List (Node Base)) (b se m : ℕ) (e : Change) (old new : Node Base) (at : slice_get nodes b ≡ Some old) (is : new.is ≡ with_entry old.is se m e) where
   own_then : (i : ℕ) → own_in i (Some new) ≡ cond (se == i) (suc (length old.is.authors)) (own_in i (Some old))
@@ -125,7 +121,7 @@ module _ (nodes : List (Node Base)) (b se m : ℕ) (e : Change) (old new : Node 
   knows_then : (s : Session) → KnowsOwn nodes se s → KnowsOwn (slice_set nodes b new) se (record s { own = slice_set s.own b (suc (length old.is.authors)) })
   knows_then s k = record {
     size = size_set s.own b (suc (length old.is.authors)) ∙ (k.size ∙ sym (size_set nodes b new));
-    each = put_both (own_in se) nodes s.own b new (suc (length old.is.authors)) k.size (below nodes b old at) (own_then se ∙ ap (λ t. cond t (suc (length old.is.authors)) (own_in se (Some old))) (is_one se)) k.each;
+    each = put_both (own_in se) nodes s.own b new (suc (length old.is.authors)) k.size (not_past nodes b old at) (own_then se ∙ ap (λ t. cond t (suc (length old.is.authors)) (own_in se (Some old))) (is_one se)) k.each;
   }
 
   knows_other : (i : ℕ) (s : Session) → (se == i) ≡ false → KnowsOwn nodes i s → KnowsOwn (slice_set nodes b new) i s
@@ -300,7 +296,7 @@ fits_there p t b e is h = subst (λ t. fits (table_at p t) e ≡ true) (sym is) 
 pub shard_there : (p : Layout) (t b : ℕ) (e : Change) → table_of p b ≡ t → shard_of p b ≡ shard (key_of (table_at p t).key e) (table_at p t).shards → shard_of p b ≡ shard (key_of (layout_of p b).key e) (layout_of p b).shards
 shard_there p t b e is h = subst (λ t. shard_of p b ≡ shard (key_of (table_at p t).key e) (table_at p t).shards) (sym is) h
 
-pub is_for : (l : LogView) (p : Layout) (b se m : ℕ) (e sent : Change) → l.plan ≡ p → l.base ≡ b → se < most_sessions → m < 18446744073709551615 → fits (layout_of p b) e ≡ true → shard_of p b ≡ shard (key_of (layout_of p b).key e) (layout_of p b).shards → sent ≡ e → IsFor l most_sessions (write se m sent)
+pub is_for : (l : LogView) (p : Layout) (b se m : ℕ) (e sent : Change) → l.plan ≡ p → l.base ≡ b → se < most_sessions → m < last_number → fits (layout_of p b) e ≡ true → shard_of p b ≡ shard (key_of (layout_of p b).key e) (layout_of p b).shards → sent ≡ e → IsFor l most_sessions (write se m sent)
 is_for l p b se m e sent of at few small fit own same =
     let fits-l : fits (layout_of l.plan l.base) e ≡ true = subst (λ c. fits (layout_of l.plan c) e ≡ true) (sym at) (subst (λ q. fits (layout_of q b) e ≡ true) (sym of) fit) in
     let own-l : shard_of l.plan l.base ≡ shard (key_of (layout_of l.plan l.base).key e) (layout_of l.plan l.base).shards

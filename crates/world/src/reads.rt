@@ -14,7 +14,7 @@ use machine::machine::Machine;
 use machine::views::cut_lengths;
 use model::fronts::Fronts;
 use row::refused::Refused;
-use row::row::Row;
+use row::row::{Row, copies};
 use row::value::Value;
 use schedule::arguments::read_target;
 use schedule::event::Reply;
@@ -107,15 +107,4 @@ fn find<F: Fronts>(
     };
     let rows = copies(alloc, rows.rows())?;
     Ok(Some(rows))
-}
-
-/// The same rows, each shared. Errors: memory only.
-fn copies(alloc: Global, rows: &[Row]) -> Result<Vec<Row>, AllocError>
-    ensures { IfOk result (λ out. out.items ≡ rows.now) }
-{
-    let mut out = Vec::new(alloc);
-    for at in 0..rows.len() {
-        out.push(rows[at].try_clone(alloc)?)?;
-    }
-    Ok(out)
 }

@@ -8,7 +8,7 @@ use std::alloc::{AllocError, Global};
 use std::sync::Wait;
 use std::test::Fail;
 
-/// An inbox of so many edges, and queues for its taker.
+/// An inbox of this many edges, and queues for its taker.
 pub fn pair(alloc: Global, edges: usize) -> Result<(Inbox<u64>, Queues<u64>), AllocError>
     ensures edges { IfOk result (λ p. p.0 ≡ edges) }
     ensures count { IfOk result (λ p. length p.1 ≡ edges) }

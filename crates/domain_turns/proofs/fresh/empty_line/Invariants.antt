@@ -1,6 +1,6 @@
 use Rattle.std.proofs.Common.{◌≡◌, map, take}
-use Rattle.domain_turns.proofs.Starting.{log_in}
-use Rattle.routes.specs.Mails.{empty_log}
+use Rattle.domain_turns.specs.BaseTurns.{log_in}
+use Rattle.packet.specs.Lines.{empty_log}
 use Rattle.domain_turns.proofs.fresh.empty_line.Given as goal
 
 abbrev pub invariant-loop-base : goal.invariant-loop-base

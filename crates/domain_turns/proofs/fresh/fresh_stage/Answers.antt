@@ -2,7 +2,7 @@ use Rattle.std.proofs.Common.{◌≡◌, [], sym, subst}
 use Rattle.row.specs.Bags.{Each}
 use Rattle.model.specs.Fronts.{LogView}
 use Rattle.packet.specs.Lines.{AreOf}
-use Rattle.domain_turns.proofs.Starting.{line_empty, line_of}
+use Rattle.packet.proofs.Copies.{line_empty, line_of}
 use Rattle.domain_turns.proofs.fresh.fresh_stage.Goals as goal
 
 pub new-requires-clause-of : goal.new-requires-clause-of

@@ -1,6 +1,7 @@
 use Rattle.std.proofs.Common.{◌≡◌, replicate, subst, arith}
 use Rattle.machine.specs.Started.{new_session}
-use Rattle.machine.proofs.Starting.{same_more, session_made}
+use Rattle.packet.proofs.Copies.{same_more}
+use Rattle.machine.proofs.Starting.{session_made}
 use Rattle.machine.proofs.starts.new_callers.Goals as goal
 
 pub loop-preserved : goal.loop-preserved

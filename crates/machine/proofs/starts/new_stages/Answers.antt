@@ -3,9 +3,10 @@ use Rattle.row.specs.Bags.{Each}
 use Rattle.model.specs.Fronts.{LogView}
 use Rattle.packet.specs.Lines.{AreOf}
 use Rattle.machine.specs.Held.{Are}
-use Rattle.machine.specs.Started.{first_logs}
+use Rattle.packet.specs.Lines.{empty_line}
 use Rattle.stage_domain.specs.Domains.{IsNew}
-use Rattle.machine.proofs.Starting.{are_more, line_of, line_empty}
+use Rattle.packet.proofs.Copies.{line_of, line_empty}
+use Rattle.machine.proofs.Starting.{are_more}
 use Rattle.machine.proofs.starts.new_stages.Goals as goal
 
 pub new-requires-clause-of : goal.new-requires-clause-of
@@ -18,10 +19,10 @@ pub loop-shard-preserved : goal.loop-shard-preserved
 loop-shard-preserved g c =
     let p = c.args.plan.now in
     let s = c.loop-shard.shard in
-    are_more (λ s d. IsNew p s (first_logs p) d) s c.loop-shard.stages.items c.push.new.self.items c.in_ok-new.field-0 c.loop-shard.invariant
+    are_more (λ s d. IsNew p s (empty_line p) d) s c.loop-shard.stages.items c.push.new.self.items c.in_ok-new.field-0 c.loop-shard.invariant
     (subst (λ line. IsNew p s line c.in_ok-new.field-0) (c.in_ok-try_clone.ensures ∙ c.requires) c.in_ok-new.ensures) c.in_ok-push.ensures.items
 
 pub returns : goal.returns
 returns g c =
     let p = c.args.plan.now in
-    subst (λ n. Are (λ s d. IsNew p s (first_logs p) d) n c.loop-shard.stages.items) (omega (arith, c.loop-shard-test.false, c.loop-shard.auto.shard-end, c.stages-shard-end.ensures)) c.loop-shard.invariant
+    subst (λ n. Are (λ s d. IsNew p s (empty_line p) d) n c.loop-shard.stages.items) (omega (arith, c.loop-shard-test.false, c.loop-shard.auto.shard-end, c.stages-shard-end.ensures)) c.loop-shard.invariant

@@ -3,8 +3,10 @@ use Rattle.row.specs.Bags.{Each}
 use Rattle.packet.specs.Lines.{AreOf}
 use Rattle.packet.specs.declared.reader.Reader.{Reader}
 use Rattle.schedule.specs.Codes.{reader_in}
-use Rattle.machine.specs.Started.{new_view}
-use Rattle.machine.proofs.Starting.{cut_of, cut_size, cut_made, view_made, reader_there, taken_more, taken_all, map_both}
+use Rattle.view_domain.specs.Domains.{new_view}
+use Rattle.packet.proofs.Copies.{cut_of, cut_size, cut_made}
+use Rattle.view_domain.proofs.Fresh.{view_made}
+use Rattle.machine.proofs.Starting.{reader_there, taken_more, taken_all, map_both}
 use Rattle.machine.proofs.starts.new_views.Goals as goal
 
 abbrev none : Reader

@@ -1,6 +1,6 @@
 use Rattle.std.proofs.Common.{◌≡◌, map, take}
 use Rattle.schedule.specs.Codes.{reader_in}
-use Rattle.machine.specs.Started.{new_view}
+use Rattle.view_domain.specs.Domains.{new_view}
 use Rattle.machine.proofs.starts.new_views.Given as goal
 
 abbrev pub invariant-loop-reader : goal.invariant-loop-reader
