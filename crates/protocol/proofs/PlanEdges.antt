@@ -1,5 +1,5 @@
 -- Edges by the places of their ends are those of the plan, in its order.
-use Rattle.std.proofs.Common.{◌≡◌, ℕ, zero, suc, ◌+◌, ◌<◌, ◌≤◌, List, [], ◌∷◌, ◌++◌, map, flat_map, length, slice_index_or, Option, Some, None, refl, ap, sym, ◌∙◌, arith}
+use Rattle.std.proofs.Common.{◌≡◌, ℕ, zero, suc, ◌+◌, ◌<◌, ◌≤◌, List, [], ◌∷◌, ◌++◌, map, flat_map, length, slice_get, slice_index_or, ◌==◌, Option, Some, None, refl, ap, sym, ◌∙◌, arith}
 use Rattle.std.specs.List.{range_with_len}
 use Rattle.std.proofs.lemmas.List.{map-append}
 use Rattle.std.proofs.lemmas.List.FromFn.{fill_by_all}
@@ -10,20 +10,18 @@ use Rattle.plan.specs.Domains as plan
 use Rattle.plan.specs.declared.domain.DomainId.{DomainId}
 use Rattle.plan.specs.declared.domain.DomainId.TheVariants as domain
 use Rattle.plan.specs.declared.domain.Edge.{Edge}
-use Rattle.model.specs.Places.{sources, right_bases, side_bases, base_at, shard_of}
+use Rattle.model.specs.Places.{sources, source_at, right_bases, side_bases, base_at, shard_of}
 use Rattle.model.proofs.PlaceLaws.{base_table, base_shard}
-use Rattle.packet.specs.Readers.{Reader, readers, readers_of}
-use Rattle.protocol.specs.Edges.{Wire, to_stage_from, to_view_from, to_stage_back, to_base_back, pairs, joins, domain_of_base, domain_of_reader, source_of, reader_of, edge_of}
-use Rattle.protocol.specs.Laws.{EveryEdge}
+use Rattle.packet.specs.Readers.{Reader, is_reader, readers, readers_of}
+use Rattle.protocol.specs.Edges.{Wire, to_stage_from, to_view_from, to_stage_back, to_base_back, pairs, joins, domain_of_base, domain_of_reader, source_domain, reader_domain, edge_of, reader_place, source_place}
+use Rattle.protocol.specs.Laws.{EveryEdge, EveryPlace}
+use Rattle.protocol.proofs.Spots.{both_true, found, same_is}
+use Rattle.std.proofs.lemmas.Simd.{map-map}
 
 -- ---- lists
 -- a list by its places
 by_places : {X : Type 0} (d : X) (xs : List X) → xs ≡ map (λ i. slice_index_or xs i d) (range_with_len 0 (length xs))
 by_places d xs = fill_by_all (λ i. slice_index_or xs i d) xs (length xs) d refl (λ k lt. refl)
-
-map_twice : {X Y Z : Type 0} (f : Y → Z) (g : X → Y) (xs : List X) → map f (map g xs) ≡ map (λ x. f (g x)) xs
-map_twice f g [] = refl
-map_twice f g (x ∷ xs) = ap (λ ys. f (g x) ∷ ys) (map_twice f g xs)
 
 -- ---- edges
 module _ (p : Layout) (f : ℕ → ℕ → Wire) (a b : ℕ → DomainId) (e : (i j : ℕ) → edge_of p (f i j) ≡ joins (a i) (b j)) where
@@ -70,7 +68,7 @@ sources_by p good =
 readers_by : (p : Layout) (is : List ℕ) → flat_map (plan.shards_of_view p) is ≡ map domain_of_reader (flat_map (readers_of p) is)
 readers_by p [] = refl
 readers_by p (i ∷ is) =
-    ap (λ xs. xs ++ flat_map (plan.shards_of_view p) is) (sym (map_twice domain_of_reader (λ j. record { view = i; shard = j }) (range_with_len 0 (view_at p i).shards)))
+    ap (λ xs. xs ++ flat_map (plan.shards_of_view p) is) (sym (map-map domain_of_reader (λ j. record { view = i; shard = j }) (range_with_len 0 (view_at p i).shards)))
     ∙ ap (λ xs. map domain_of_reader (readers_of p i) ++ xs) (readers_by p is) ∙ sym (map-append domain_of_reader (readers_of p i) (flat_map (readers_of p) is))
 
 -- of two lists together
@@ -82,10 +80,10 @@ every_edge p good =
     both p (to_stages ++ to_views ++ stages_back) bases_back (plan.pairs (plan.sources p) stages ++ plan.pairs stages (plan.view_shards p) ++ plan.pairs (plan.view_shards p) stages) (plan.pairs stages (plan.sources p))
     (both p (to_stages ++ to_views) stages_back (plan.pairs (plan.sources p) stages ++ plan.pairs stages (plan.view_shards p)) (plan.pairs (plan.view_shards p) stages)
     (both p to_stages to_views (plan.pairs (plan.sources p) stages) (plan.pairs stages (plan.view_shards p))
-    (between p to_stage_from (source_of p) domain.Stage (λ i j. refl) (plan.sources p) stages n p.stages by_source refl)
-    (between p to_view_from domain.Stage (reader_of p) (λ i j. refl) stages (plan.view_shards p) p.stages m refl by_reader))
-    (between p to_stage_back (reader_of p) domain.Stage (λ i j. refl) (plan.view_shards p) stages m p.stages by_reader refl))
-    (between p to_base_back domain.Stage (source_of p) (λ i j. refl) stages (plan.sources p) p.stages n refl by_source)
+    (between p to_stage_from (source_domain p) domain.Stage (λ i j. refl) (plan.sources p) stages n p.stages by_source refl)
+    (between p to_view_from domain.Stage (reader_domain p) (λ i j. refl) stages (plan.view_shards p) p.stages m refl by_reader))
+    (between p to_stage_back (reader_domain p) domain.Stage (λ i j. refl) (plan.view_shards p) stages m p.stages by_reader refl))
+    (between p to_base_back domain.Stage (source_domain p) (λ i j. refl) stages (plan.sources p) p.stages n refl by_source)
   where
     first : Reader
     first = record { view = 0; shard = 0 }
@@ -111,8 +109,27 @@ every_edge p good =
     bases_back : List Wire
     bases_back = pairs to_base_back p.stages n
 
-    by_source : plan.sources p ≡ map (source_of p) (range_with_len 0 n)
-    by_source = sources_by p (facts p good) ∙ (ap (map (domain_of_base p)) (by_places 0 (sources p)) ∙ map_twice (domain_of_base p) (λ j. slice_index_or (sources p) j 0) (range_with_len 0 n))
+    by_source : plan.sources p ≡ map (source_domain p) (range_with_len 0 n)
+    by_source = sources_by p (facts p good) ∙ (ap (map (domain_of_base p)) (by_places 0 (sources p)) ∙ map-map (domain_of_base p) (λ j. slice_index_or (sources p) j 0) (range_with_len 0 n))
 
-    by_reader : plan.view_shards p ≡ map (reader_of p) (range_with_len 0 m)
-    by_reader = readers_by p (range_with_len 0 (length p.views)) ∙ (ap (map domain_of_reader) (by_places first (readers p)) ∙ map_twice domain_of_reader (λ r. slice_index_or (readers p) r first) (range_with_len 0 m))
+    by_reader : plan.view_shards p ≡ map (reader_domain p) (range_with_len 0 m)
+    by_reader = readers_by p (range_with_len 0 (length p.views)) ∙ (ap (map domain_of_reader) (by_places first (readers p)) ∙ map-map domain_of_reader (λ r. slice_index_or (readers p) r first) (range_with_len 0 m))
+
+-- ---- places
+slice_or : {X : Type 0} (xs : List X) (n : ℕ) (x d : X) → slice_get xs n ≡ Some x → slice_index_or xs n d ≡ x
+slice_or [] n x d e = cc
+slice_or (y ∷ ys) zero x d e = cc
+slice_or (y ∷ ys) (suc n) x d e = slice_or ys n x d e
+
+source_stands : (p : Layout) (b j : ℕ) → source_place p b ≡ Some j → source_at p j ≡ b
+source_stands p b j e = let f = found (λ c. c == b) (sources p) j e in slice_or (sources p) j f.it 0 f.at ∙ same_is f.it b f.passes
+
+reader_stands : (p : Layout) (i j r : ℕ) → reader_place p i j ≡ Some r → reader_domain p r ≡ domain.View i j
+reader_stands p i j r e =
+    let f = found (is_reader i j) (readers p) r e in
+    let same = both_true (f.it.view == i) (f.it.shard == j) f.passes in
+    ap domain_of_reader (slice_or (readers p) r f.it (record { view = 0; shard = 0 }) f.at)
+    ∙ (ap (λ k. domain.View k f.it.shard) (same_is f.it.view i same.0) ∙ ap (domain.View i) (same_is f.it.shard j same.1))
+
+pub every_place : EveryPlace
+every_place p = record { sources = source_stands p; readers = reader_stands p }

@@ -64,12 +64,12 @@ domain_of_base p b = domain.Base (table_of p b) (shard_of p b)
 abbrev pub domain_of_reader : Reader → DomainId
 domain_of_reader r = domain.View r.view r.shard
 
--- the source, and the view shard, at a place: a column of a line, and a row of the inboxes
-abbrev pub source_of : Layout → ℕ → DomainId
-source_of p j = domain_of_base p (source_at p j)
+-- the source at a place of a line, and the view shard at a place among the readers
+abbrev pub source_domain : Layout → ℕ → DomainId
+source_domain p j = domain_of_base p (source_at p j)
 
-abbrev pub reader_of : Layout → ℕ → DomainId
-reader_of p r = domain_of_reader (slice_index_or (readers p) r (record { view = 0; shard = 0 }))
+abbrev pub reader_domain : Layout → ℕ → DomainId
+reader_domain p r = domain_of_reader (slice_index_or (readers p) r (record { view = 0; shard = 0 }))
 
 -- the edge from this domain to that
 abbrev pub joins : DomainId → DomainId → Edge
@@ -77,10 +77,10 @@ joins a b = record { from = a; to = b }
 
 -- the edge of the plan whose ends stand at these places
 abbrev pub edge_of : Layout → Wire → Edge
-edge_of p (to_stage_from j s) = joins (source_of p j) (domain.Stage s)
-edge_of p (to_view_from s r) = joins (domain.Stage s) (reader_of p r)
-edge_of p (to_stage_back r s) = joins (reader_of p r) (domain.Stage s)
-edge_of p (to_base_back s j) = joins (domain.Stage s) (source_of p j)
+edge_of p (to_stage_from j s) = joins (source_domain p j) (domain.Stage s)
+edge_of p (to_view_from s r) = joins (domain.Stage s) (reader_domain p r)
+edge_of p (to_stage_back r s) = joins (reader_domain p r) (domain.Stage s)
+edge_of p (to_base_back s j) = joins (domain.Stage s) (source_domain p j)
 
 -- the two domains are one
 abbrev pub is_domain : DomainId → DomainId → Bool

@@ -14,13 +14,14 @@ use Rattle.protocol.specs.Views.{View, ToView, packet, want, order}
 use Rattle.protocol.specs.ViewSteps as on_view
 use Rattle.protocol.specs.Worlds.{Node, World, start}
 use Rattle.protocol.specs.Events.{Event}
-use Rattle.protocol.specs.Edges.{queue, Wire, wires, edge_of}
+use Rattle.protocol.specs.Edges.{queue, Wire, wires, edge_of, reader_domain, reader_place, source_place}
 use Rattle.protocol.specs.WorldSteps.{step, delivery}
 use Rattle.std.specs.List.{list_any}
 use Rattle.row.specs.Cells.{Datum, Cells, cell_at, same}
 use Rattle.packet.specs.Readers.{Reader, is_of}
 use Rattle.row.specs.Bags.{Each}
-use Rattle.model.specs.Places.{layout_of}
+use Rattle.model.specs.Places.{layout_of, source_at}
+use Rattle.plan.specs.declared.domain.DomainId.TheVariants as domain
 use Rattle.protocol.specs.Bases.{last_number, Base, ToBase}
 use Rattle.model.specs.Logs.{Change, lawful}
 
@@ -28,6 +29,15 @@ use Rattle.model.specs.Logs.{Change, lawful}
 -- the edges by the places of their ends are the plan's, in its order
 abbrev pub EveryEdge : Type 0
 EveryEdge = (p : Layout) → IsPlan p → map (edge_of p) (wires p) ≡ edges p
+
+-- where a base shard is found among the sources, and a view shard among the readers, it stands
+pub record ArePlaces (p : Layout) : Type 0 where
+  pub sources : (b j : ℕ) → source_place p b ≡ Some j → source_at p j ≡ b
+  pub readers : (i j r : ℕ) → reader_place p i j ≡ Some r → reader_domain p r ≡ domain.View i j
+
+-- so it is for every plan
+abbrev pub EveryPlace : Type 0
+EveryPlace = (p : Layout) → ArePlaces p
 
 -- ---- packets in turn
 -- the packet goes on from the front that the stage shard holds of its source

@@ -3,16 +3,18 @@
 //! holds of the definitions.
 #![tactic(auto)]
 
-ghost use Rattle.protocol.specs.{Laws.EveryEdge, Laws.EveryTurn, Laws.EveryBasePacket, Laws.EveryEviction, Laws.StageCap, Laws.ViewCap, Laws.AreCounted, Theorem.EverySchedule};
+ghost use Rattle.protocol.specs.{Laws.EveryEdge, Laws.EveryPlace, Laws.EveryTurn, Laws.EveryBasePacket, Laws.EveryEviction, Laws.StageCap, Laws.ViewCap, Laws.AreCounted, Theorem.EverySchedule};
 
 /// For every plan and every schedule the replies tell of a legal history.
 pub fn every_schedule()
     ensures legal { EverySchedule }
 {}
 
-/// The edges on which messages lie, by the places of their ends, are the plan's, in its order.
+/// The edges on which messages lie, by the places of their ends, are the plan's, in its order; and
+/// where a source or a view shard is found, it stands.
 pub fn every_edge()
     ensures wires { EveryEdge }
+    ensures places { EveryPlace }
 {}
 
 /// For every plan and every schedule, between any two deliveries, the first packet on each edge to
@@ -39,7 +41,8 @@ pub fn every_cap()
     ensures view { ViewCap }
 {}
 
-/// A view shard counts each request that it sends, up to the greatest number of 64 bits.
+/// A view shard counts each request that it sends, up to the greatest number of 64 bits, where its
+/// count is no more than that, and a packet is of a stage shard of the plan.
 pub fn every_request()
     ensures counted { AreCounted }
 {}
