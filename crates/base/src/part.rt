@@ -4,8 +4,8 @@ ghost use Rattle.base.specs.Parts.{is_in};
 
 use row::row::Row;
 
-/// The rows whose cell in the column has the shard, of that count of them. A stage shard's part of a
-/// base shard is that of the stage key's column.
+/// The rows whose cell in the column has this shard. A stage shard's part of a base shard is that
+/// of the stage key's column.
 #[derive(Clone, Copy, Debug, PartialEq, Eq)]
 pub struct Part {
     /// A place of a column.

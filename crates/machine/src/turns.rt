@@ -29,8 +29,8 @@ use view_domain::outbox::ViewOutbox;
 use view_domain::view_domain::ViewDomain;
 
 /// A stage shard that runs takes a message, and what it puts out goes last on its queues: packets
-/// to this many view shards, and requests to this many sources. Errors: then nothing is said of the
-/// shard and the queues.
+/// to view shards and requests to sources, of which `edges` has the numbers. Errors: then nothing is
+/// said of the shard and the queues.
 pub(crate) fn turn_stage<'p, F: Fronts>(
     alloc: Global,
     stage: usize,

@@ -65,7 +65,7 @@ impl Lengths {
         Ok(())
     }
 
-    /// The same lengths of the sources for each of this many stage shards. Errors: memory only.
+    /// The same lengths of the sources for each of `stages` stage shards. Errors: memory only.
     pub fn even(alloc: Global, stages: usize, line: &[u64]) -> Result<Lengths, AllocError>
         ensures { IfOk result (λ c. c ≡ replicate stages line.now) }
     {

@@ -42,7 +42,7 @@ pub fn command<
     status_of(ran, err)
 }
 
-// The status of what was run, or is refused: then the refusal goes to `err`.
+// 0 where all was run; else 1, and the refusal goes to `err`.
 fn status_of<E: Write>(ran: Result<(), Fault>, err: &mut E) -> u8
     ensures { result ≤ 1 }
 {

@@ -34,11 +34,11 @@ none_in : (p : Layout) (bs : List ℕ) → Each (λ (l : LogView). l.entries ≡
 none_in p [] = tt
 none_in p (b ∷ bs) = (refl, none_in p bs)
 
--- and has no entry
+-- the line of empty logs has no entry
 pub line_empty : (p : Layout) → Each (λ (l : LogView). l.entries ≡ []) (empty_line p)
 line_empty p = none_in p (sources p)
 
--- so is each line of a cut
+-- each line of a cut of empty logs is one of the plan
 pub cut_of : (p : Layout) (n : ℕ) → Each (AreOf p) (replicate n (empty_line p))
 cut_of p zero = tt
 cut_of p (suc n) = (line_of p, cut_of p n)

@@ -69,7 +69,7 @@ impl<F: Fronts> Line<F> {
         Ok(Line { fronts })
     }
 
-    /// As many copies of it. Errors: memory only. Cost: a copy of each front for each.
+    /// `count` copies of it. Errors: memory only. Cost: a copy of each front for each.
     pub fn copies(&self, alloc: Global, count: usize) -> Result<Vec<Line<F>>, AllocError>
         ensures { IfOk result (λ v. v.items ≡ replicate count self.now) }
     {

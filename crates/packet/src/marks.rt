@@ -100,7 +100,7 @@ impl Marks {
         Ok(leave(&mut self.waiting, at))
     }
 
-    /// None has come from any of this many senders. Takes no memory.
+    /// None has come from any of `senders` senders. Takes no memory.
     pub fn new(alloc: Global, senders: usize) -> Marks
         ensures { result ≡ record { senders = senders; waiting = [] } }
     {

@@ -1,5 +1,5 @@
 -- The rows that pass a test, after records.
-use Rattle.std.proofs.Common.{◌≡◌, ℕ, ◌<◌, ◌≤◌, nat_lt, Bool, true, false, cond, List, [], ◌∷◌, filter, refl, ap, sym, ◌∙◌, arith, Ordering}
+use Rattle.std.proofs.Common.{◌≡◌, ℕ, ◌<◌, nat_lt, Bool, true, false, cond, List, [], ◌∷◌, filter, refl, ap, sym, ◌∙◌, arith, Ordering}
 use Rattle.std.specs.declared.cmp.Ordering.TheVariants.{Less, Equal, Greater}
 use Rattle.std.specs.Ordering.{is_eq, is_gt}
 use Rattle.row.specs.Cells.{Cells, row_cmp}
@@ -124,6 +124,3 @@ module _ (p : Cells → Bool) where
 -- what a test of less shows
 pub lt_of : (a b : ℕ) → nat_lt a b ≡ true → a < b
 lt_of a b h = grind (arith, nat_tests)
-
-le_of : (a b : ℕ) → nat_lt a b ≡ false → b ≤ a
-le_of a b h = grind (arith, nat_tests)

@@ -117,7 +117,7 @@ impl<P: Drop> Model for Queues<P> {
 }
 
 impl<P: Drop> Queues<P> {
-    /// Empty queues from this many senders to each of this many receivers. Errors: memory only.
+    /// Empty queues to each of `receivers` from each of `senders`. Errors: memory only.
     pub fn new(alloc: Global, receivers: usize, senders: usize) -> Result<Queues<P>, AllocError>
         ensures { IfOk result (λ q. q ≡ no_queues receivers senders) }
     {

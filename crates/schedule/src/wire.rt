@@ -66,7 +66,7 @@ pub(crate) fn wires(
     Ok(out)
 }
 
-/// Puts the edges from each of this many domains to each of this many behind the others.
+/// Puts the edges from each of `from` domains to each of `to` behind the others.
 fn push_pairs(out: &mut Vec<Wire>, way: Way, from: usize, to: usize) -> Result<(), AllocError>
     ensures { OnOk result (map wire_in out.new.items
         ≡ map wire_in out.old.items ++ pairs (wire_on way) from to) }
@@ -77,7 +77,7 @@ fn push_pairs(out: &mut Vec<Wire>, way: Way, from: usize, to: usize) -> Result<(
     Ok(())
 }
 
-/// Puts the edges from one domain to each of this many behind the others.
+/// Puts the edges from one domain to each of `to` behind the others.
 fn push_wires(out: &mut Vec<Wire>, way: Way, from: usize, to: usize) -> Result<(), AllocError>
     ensures { OnOk result (map wire_in out.new.items
         ≡ map wire_in out.old.items ++ wires_on way from to) }

@@ -172,7 +172,7 @@ fn reader_at<J: Naming>(routes: &Routes<J>, place: usize) -> Reader
     }
 }
 
-// Whether for each of this many stage shards the cut has no less of each source than the fronts.
+// Whether for each stage shard the cut has no less of each source than the fronts.
 fn has_all<J: Naming>(cut: &Lengths, stages: usize, looked: &[Front<J>]) -> bool
     requires stages { stages ≡ J.plan.stages }
     ensures { IsTrue result → HasAll J.plan looked.now cut.now }

@@ -1,5 +1,5 @@
 -- Lines of fronts of a plan.
-use Rattle.std.proofs.Common.{◌≡◌, ℕ, ◌<◌, List, [], ◌∷◌, ◌++◌, length, map, take, Option, None, refl, ap, arith, length-append}
+use Rattle.std.proofs.Common.{◌≡◌, ℕ, ◌<◌, List, [], ◌∷◌, length, map, Option, None, refl, arith, length-append}
 use Rattle.std.proofs.lemmas.List.FromFn.{length-range_with_len}
 use Rattle.row.proofs.BagLemmas.{Each-at}
 use Rattle.row.specs.Cells.{Datum, datum_of}
@@ -31,10 +31,6 @@ first_plan p (b ∷ bs) (l ∷ line) h some = h.0.plan
 -- a line of the plan's sources says which plan it is
 pub plan_is : (p : Layout) (line : List LogView) → Facts p → AreOf p line → plan_of line ≡ p
 plan_is p line facts of = first_plan p (sources p) line of (some_source p facts)
-
-taken : {X : Type 0} (xs rest : List X) → take (length xs) (xs ++ rest) ≡ xs
-taken [] rest = refl
-taken (x ∷ xs) rest = ap (λ t. x ∷ t) (taken xs rest)
 
 -- so many entries of each of the longer fronts are the shorter ones
 pub shorter_is : (from to : List LogView) → Grows (entries_of from) (entries_of to) → fronts_to (lengths_of from) (entries_of to) ≡ entries_of from

@@ -25,6 +25,7 @@ use Rattle.stage_sides.specs.Held.{IsSetOf}
 use Rattle.stage_steps.specs.Shards.{IsShard, Shard, gone_names, gone_to, stage_of}
 use Rattle.stage_steps.specs.Told.{names_in, perhaps, told, told_if}
 use Rattle.stage_steps.proofs.Truths.{still_true}
+use Rattle.std.proofs.lemmas.Simd.{map-map}
 
 or_flip : (a b c : Bool) → (a || (b || c)) ≡ (b || (a || c))
 or_flip true true c = refl
@@ -82,10 +83,6 @@ gone_true x k names whole is r =
     still_true x.plan x.shard (entries_of x.line) names whole.fronts r
     (ascends_filter (λ k. is_of x.plan r.view k r) (slice_index_or names r.view []) (subst (λ ns. Ascends (slice_index_or ns r.view [])) (sym is) (ascends_at x k x.plan.views r.view)))
 
-map_twice : {A B C : Type 0} (f : B → C) (g : A → B) (as_ : List A) → map f (map g as_) ≡ map (λ a. f (g a)) as_
-map_twice f g [] = refl
-map_twice f g (a ∷ as_) = ap (λ t. f (g a) ∷ t) (map_twice f g as_)
-
 pub gone_all : (x : Shard) (k : Datum) (names : List (List Datum)) (items : List (Option StagePacketView)) → names ≡ gone_names x k → items ≡ map (told_if false x.plan x.shard (entries_of x.line) (entries_of x.line) [] names None) (readers x.plan)
     → map perhaps items ≡ map (gone_to x k) (readers x.plan)
-gone_all x k names items is told = ap (map perhaps) told ∙ (map_twice perhaps (told_if false x.plan x.shard (entries_of x.line) (entries_of x.line) [] names None) (readers x.plan) ∙ ap (λ ns. map (λ r. perhaps (told_if false x.plan x.shard (entries_of x.line) (entries_of x.line) [] ns None r)) (readers x.plan)) is)
+gone_all x k names items is told = ap (map perhaps) told ∙ (map-map perhaps (told_if false x.plan x.shard (entries_of x.line) (entries_of x.line) [] names None) (readers x.plan) ∙ ap (λ ns. map (λ r. perhaps (told_if false x.plan x.shard (entries_of x.line) (entries_of x.line) [] ns None r)) (readers x.plan)) is)

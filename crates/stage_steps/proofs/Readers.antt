@@ -9,16 +9,13 @@ use Rattle.row.specs.declared.record.Record.{Record}
 use Rattle.packet.specs.Messages.{KeyedRecord}
 use Rattle.packet.specs.Readers.{Reader, readers_of}
 use Rattle.stage_steps.specs.Told.{key_column, keyed_for, keyed_at, told_changes}
-
-map_twice : {X Y Z : Type 0} (f : Y → Z) (g : X → Y) (xs : List X) → map f (map g xs) ≡ map (λ x. f (g x)) xs
-map_twice f g [] = refl
-map_twice f g (x ∷ xs) = ap (λ t. f (g x) ∷ t) (map_twice f g xs)
+use Rattle.std.proofs.lemmas.Simd.{map-map}
 
 pub put_reader : {X : Type 0} (f : Reader → X) (i : ℕ) (old now then : List X) (n : ℕ) → now ≡ old ++ map f (map (λ j. record { view = i; shard = j }) (range_with_len 0 n)) → then ≡ now ++ f (record { view = i; shard = n }) ∷ []
     → then ≡ old ++ map f (map (λ j. record { view = i; shard = j }) (range_with_len 0 (n + 1)))
 put_reader f i old now then n before put =
-    put_more (λ j. f (record { view = i; shard = j })) old now then n (before ∙ ap (λ t. old ++ t) (map_twice f (λ j. record { view = i; shard = j }) (range_with_len 0 n))) put
-    ∙ ap (λ t. old ++ t) (sym (map_twice f (λ j. record { view = i; shard = j }) (range_with_len 0 (n + 1))))
+    put_more (λ j. f (record { view = i; shard = j })) old now then n (before ∙ ap (λ t. old ++ t) (map-map f (λ j. record { view = i; shard = j }) (range_with_len 0 n))) put
+    ∙ ap (λ t. old ++ t) (sym (map-map f (λ j. record { view = i; shard = j }) (range_with_len 0 (n + 1))))
 
 pub put_view : {X : Type 0} (f : Reader → X) (p : Layout) (now then : List X) (n : ℕ) → now ≡ map f (flat_map (readers_of p) (range_with_len 0 n)) → then ≡ now ++ map f (readers_of p n) → then ≡ map f (flat_map (readers_of p) (range_with_len 0 (n + 1)))
 put_view f p now then n before put =

@@ -9,8 +9,8 @@ use row::record::Record;
 use row::value::Value;
 use std::alloc::{AllocError, Global};
 
-/// The records whose row has this shard of the count in the column, each beside its value there, in
-/// their order, but for those whose value is evicted. Errors: memory only. Cost: a look at each
+/// The records whose row has shard `shard` of `shards` in the column, each beside its value there,
+/// in their order, but for those whose value is evicted. Errors: memory only. Cost: a look at each
 /// record, and for each of those a copy, and a look at what is evicted.
 pub(crate) fn keyed_for(
     alloc: Global,

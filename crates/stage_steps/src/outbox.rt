@@ -28,7 +28,7 @@ impl<F: Fronts> Model for StageOutbox<F> {
 }
 
 impl<F: Fronts> StageOutbox<F> {
-    /// An outbox with an edge to each of this many view shards and of this many sources, and
+    /// An outbox with an edge to each of `readers` view shards and of `sources` sources, and
     /// nothing in it. Errors: memory only.
     pub fn new(alloc: Global, readers: usize, sources: usize) -> Result<StageOutbox<F>, AllocError>
         ensures clear { IfOk result (λ o. IsSilent o) }

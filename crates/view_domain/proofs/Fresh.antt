@@ -6,7 +6,7 @@ use Rattle.packet.specs.Lines.{empty_line}
 use Rattle.packet.specs.Readers.{Reader}
 use Rattle.view_domain.specs.Domains.{Domain, new_view}
 
--- the same over another cut
+-- a new view shard, but over this cut
 abbrev pub view_from : Layout → Reader → List (List LogView) → Domain
 view_from p r cut = record (new_view p r) { cut = cut }
 

@@ -29,7 +29,7 @@ impl<F: Fronts> Model for ViewOutbox<F> {
 }
 
 impl<F: Fronts> ViewOutbox<F> {
-    /// An outbox with an edge to each of this many stage shards, and nothing in it. Errors: memory
+    /// An outbox with an edge to each of `stages` stage shards, and nothing in it. Errors: memory
     /// only.
     pub fn new(alloc: Global, stages: usize) -> Result<ViewOutbox<F>, AllocError>
         ensures clear { IfOk result (λ o. IsClear o) }

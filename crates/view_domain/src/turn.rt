@@ -5,8 +5,8 @@ ghost use Rattle.packet.specs.{Lines.entries_of, Lines.fronts_to, Truth.Pointwis
 use model::fronts::Fronts;
 use packet::line::Line;
 
-/// Whether a front's first entries, up to this length, are those of the front that is held, which is
-/// of the same log. Constant time.
+/// Whether a front's first entries, up to this length, are those of the front that is held, which
+/// is of the same log. Constant time.
 fn is_held<F: Fronts>(from: u64, to: &F, held: &F) -> bool
     requires { F.are_one (F.log held.now) (F.log to.now) }
     ensures { IsTrue result ↔ (take from (F.log to.now).entries ≡ (F.log held.now).entries) }

@@ -1,4 +1,4 @@
-use Rattle.std.proofs.Common.{◌≡◌, ◌==◌, ◌&&◌, Bool, not, true, false, Some, slice_get, refl, ap, sym, ◌∙◌, subst}
+use Rattle.std.proofs.Common.{◌≡◌, ◌==◌, ◌&&◌, not, true, false, Some, slice_get, ap, sym, ◌∙◌, subst}
 use Rattle.std.specs.Option.{option_map}
 use Rattle.std.proofs.lemmas.Bool.{eqb-true}
 use Rattle.row.specs.Cells.{datum_of, row_cmp}
@@ -11,16 +11,13 @@ use Rattle.packet.specs.Messages.{Piece}
 use Rattle.protocol.specs.StageSteps.{piece_taken, quiet}
 use Rattle.right_rows.specs.Rights.{keys_in}
 use Rattle.row.specs.Bags.{sorted}
+use Rattle.row.proofs.BagLemmas.{not_true}
 use Rattle.stage_sides.specs.Kept.{kept_rows}
 use Rattle.stage_steps.proofs.Puts.{after}
 use Rattle.stage_steps.specs.Outboxes.{AreEdges}
 use Rattle.stage_steps.specs.Shards.{IsFrom, IsPut, IsShard, Shard}
 use Rattle.stage_steps.proofs.Fed.{fed_keyed, fed_whole, put_fed, put_unfed}
 use Rattle.stage_steps.proofs.shard.StageShard.take_piece.Goals as goal
-
-not_true : (b : Bool) → not b ≡ true → b ≡ false
-not_true false e = refl
-not_true true e = cc
 
 pub give-requires : goal.give-requires
 give-requires g c =
