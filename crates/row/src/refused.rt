@@ -1,5 +1,5 @@
 //! The reasons for which a call is refused, with the number and the name that users see.
-ghost use Rattle.std.specs.Prelude.{◌≡◌};
+ghost use Rattle.std.specs.Prelude.{◌≡◌, Some};
 ghost use Rattle.row.specs.{Refusals.number_of, Refusals.name_of, declared.refused.Refused.TheVariants.NoMemory};
 
 use std::alloc::AllocError;
@@ -101,7 +101,10 @@ impl Refused {
     }
 }
 
+/// The name.
 impl fmt::Display for Refused {
+    ghost output = { λ refused. Some (name_of refused) };
+
     fn fmt<W: fmt::Write>(&self, f: &mut fmt::Formatter<W>) -> fmt::Result {
         f.write_str(self.name())
     }
