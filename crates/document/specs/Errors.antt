@@ -1,9 +1,13 @@
--- The numbers of refusals, their names, and what a call answers.
-use Rattle.std.specs.Prelude.{◌≡◌, ℕ, List, codes, Result, Ok, Err}
+-- The numbers of refusals, their names and places as they are printed, and what a call answers.
+use Rattle.std.specs.Prelude.{◌≡◌, ℕ, ◌+◌, min, List, [], ◌++◌, codes, Result, Ok, Err}
+use Rattle.std.specs.Fmt.{decimal}
 use Rattle.document.specs.declared.error.PlanError.{PlanError}
 use Rattle.document.specs.declared.error.PlanError.TheVariants as error
 use Rattle.document.specs.declared.error.Flaw.{Flaw}
 use Rattle.document.specs.declared.error.Flaw.TheVariants as flaw
+use Rattle.document.specs.declared.error.Part.{Part}
+use Rattle.document.specs.declared.error.Part.TheVariants as part
+use Rattle.document.specs.declared.error.Spot.{Spot}
 
 abbrev pub number_at : Flaw → ℕ
 number_at flaw.MissingField = 21
@@ -32,6 +36,34 @@ abbrev pub name_of : PlanError → List ℕ
 name_of error.NoMemory = codes "NoMemory"
 name_of error.NotToml = codes "NotToml"
 name_of (error.At f s) = name_at f
+
+-- what is said of a flaw behind its place
+abbrev pub printed_flaw : Flaw → List ℕ
+printed_flaw flaw.MissingField = codes ", which is missing"
+printed_flaw flaw.UnknownColumn = codes ", and there is none such"
+printed_flaw flaw.TypeMismatch = []
+printed_flaw flaw.DoublePath = []
+printed_flaw flaw.KeyNotLeft = []
+printed_flaw flaw.LimitExceeded = []
+printed_flaw flaw.DuplicateName = []
+
+-- the number of the part at a position, counted from 1
+abbrev pub from_one : ℕ → List ℕ
+from_one at = decimal (min (at + 1) 18446744073709551615)
+
+-- a part by its name, and by its number where there may be more of its kind
+abbrev pub printed_part : Part → List ℕ
+printed_part part.Recipe = codes "the recipe"
+printed_part (part.Table at) = codes "table " ++ from_one at
+printed_part part.Stage = codes "the stage"
+printed_part (part.LeftCondition at) = codes "the stage, left condition " ++ from_one at
+printed_part (part.RightCondition at) = codes "the stage, right condition " ++ from_one at
+printed_part (part.View at) = codes "view " ++ from_one at
+
+-- the part, the field, and what is expected there
+abbrev pub printed_spot : Spot → List ℕ
+printed_spot spot = printed_part spot.part
+    ++ (codes ", `" ++ (spot.field.now ++ (codes "`: expected " ++ spot.expected.now)))
 
 -- what a call gives, seen by view, is what the definition gives, unless memory ran out
 abbrev pub Fails : {Y : Type 0} → PlanError → Result Y ℕ → Type 0

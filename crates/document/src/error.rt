@@ -1,9 +1,9 @@
 //! Why a recipe is refused, and where the fault is.
-ghost use Rattle.std.specs.Prelude.{◌≡◌};
+ghost use Rattle.std.specs.Prelude.{◌≡◌, Some};
 ghost use Rattle.std.proofs.Common.{rules};
 ghost use Rattle.std.specs.Cmp.Rules.{comparing};
 ghost use Rattle.std.specs.Ordering.{nat_cmp, on, eq_by_cmp};
-ghost use Rattle.document.specs.{Errors.number_at, Errors.name_at, Errors.number_of, Errors.name_of, declared.error.PlanError.TheVariants.NoMemory};
+ghost use Rattle.document.specs.{Errors.number_at, Errors.name_at, Errors.number_of, Errors.name_of, Errors.printed_flaw, Errors.printed_part, Errors.printed_spot, declared.error.PlanError.TheVariants.NoMemory};
 
 use std::alloc::AllocError;
 use std::fmt;
@@ -108,6 +108,8 @@ impl Flaw {
 
 // What is said behind its place.
 impl fmt::Display for Flaw {
+    ghost output = { λ f. Some (printed_flaw f) };
+
     fn fmt<W: fmt::Write>(&self, f: &mut fmt::Formatter<W>) -> fmt::Result {
         match self {
             Flaw::MissingField => f.write_str(", which is missing"),
@@ -166,7 +168,10 @@ impl Eq for PlanError {
     ghost laws = { Prim.search (comparing, rules) };
 }
 
+/// The part's name, and its number from 1 on where there may be more of its kind.
 impl fmt::Display for Part {
+    ghost output = { λ p. Some (printed_part p) };
+
     fn fmt<W: fmt::Write>(&self, f: &mut fmt::Formatter<W>) -> fmt::Result {
         match self {
             Part::Recipe => write!(f, "the recipe"),
@@ -183,7 +188,10 @@ impl fmt::Display for Part {
     }
 }
 
+/// The part, the field, and what is expected there.
 impl fmt::Display for Spot {
+    ghost output = { λ s. Some (printed_spot s) };
+
     fn fmt<W: fmt::Write>(&self, f: &mut fmt::Formatter<W>) -> fmt::Result {
         write!(
             f,
