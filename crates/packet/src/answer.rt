@@ -78,6 +78,8 @@ impl<F: Fronts> Answer<F> {
         ensures session { IsTrue result → self.now.session ≡ session }
         ensures number { IsTrue result → self.now.number ≡ number }
         ensures entry { IsTrue result → self.now.entry ≡ change_of entry.now }
+        ensures sure { self.now.session ≡ session → self.now.number ≡ number
+            → self.now.entry ≡ change_of entry.now → IsTrue result }
     {
         self.session == session && self.number == number && self.entry.is_same(entry)
     }
