@@ -124,6 +124,7 @@ impl Caller {
           is = record self.old.is { number = suc self.old.is.number };
         }) }
         ensures only { IsOkUnless result Refused.NoMemory }
+        ensures spent { OnErr result (self.old.is.number ≡ last_number) }
         ensures unchanged { OnErr result (self.new ≡ self.old) }
     {
         let number = self.number;
