@@ -1,4 +1,9 @@
 //! What ends a run.
+ghost use Rattle.std.specs.Prelude.{◌≡◌, Some};
+ghost use Rattle.row.specs.declared.refused.Refused.TheVariants as refused;
+ghost use Rattle.noria.specs.declared.fault.Fault.TheVariants as fault;
+ghost use Rattle.noria.specs.Faults.{printed, of_script, of_replay};
+
 use document::error::PlanError;
 use replays::replay::ReplayError;
 use row::refused::Refused;
@@ -15,7 +20,10 @@ pub enum Fault {
     BadScript { line: usize },
 }
 
+/// The number and the name of the refusal, and for a script or a schedule its line.
 impl fmt::Display for Fault {
+    ghost output = { λ f. Some (printed f) };
+
     fn fmt<W: fmt::Write>(&self, f: &mut fmt::Formatter<W>) -> fmt::Result {
         match self {
             Fault::Refused(refused) => write!(f, "refused {} {}", refused.number(), refused.name()),
@@ -34,24 +42,32 @@ impl fmt::Display for Fault {
 }
 
 impl From<Refused> for Fault {
+    ghost from_gives = { λ r f. f ≡ fault.Refused r };
+
     fn from(refused: Refused) -> Fault {
         Fault::Refused(refused)
     }
 }
 
 impl From<AllocError> for Fault {
+    ghost from_gives = { λ _ f. f ≡ fault.Refused refused.NoMemory };
+
     fn from(_error: AllocError) -> Fault {
         Fault::Refused(Refused::NoMemory)
     }
 }
 
 impl From<PlanError> for Fault {
+    ghost from_gives = { λ e f. f ≡ fault.BadRecipe e };
+
     fn from(error: PlanError) -> Fault {
         Fault::BadRecipe(error)
     }
 }
 
 impl From<ScriptError> for Fault {
+    ghost from_gives = { λ e f. f ≡ of_script e };
+
     fn from(error: ScriptError) -> Fault {
         match error {
             ScriptError::NoMemory => Fault::Refused(error.refused()),
@@ -61,6 +77,8 @@ impl From<ScriptError> for Fault {
 }
 
 impl From<ReplayError> for Fault {
+    ghost from_gives = { λ e f. f ≡ of_replay e };
+
     fn from(error: ReplayError) -> Fault {
         match error {
             ReplayError::NoMemory => Fault::Refused(Refused::NoMemory),
