@@ -47,11 +47,11 @@ printed_flaw flaw.KeyNotLeft = []
 printed_flaw flaw.LimitExceeded = []
 printed_flaw flaw.DuplicateName = []
 
--- the number of the part at a position, counted from 1
+-- a position as it is printed: counted from 1, at most the greatest number of 64 bits
 abbrev pub from_one : ℕ → List ℕ
 from_one at = decimal (min (at + 1) 18446744073709551615)
 
--- a part by its name, and by its number where there may be more of its kind
+-- a part by its name, and by its number where there may be more than one of its kind
 abbrev pub printed_part : Part → List ℕ
 printed_part part.Recipe = codes "the recipe"
 printed_part (part.Table at) = codes "table " ++ from_one at

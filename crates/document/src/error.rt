@@ -168,7 +168,7 @@ impl Eq for PlanError {
     ghost laws = { Prim.search (comparing, rules) };
 }
 
-/// The part's name, and its number from 1 on where there may be more of its kind.
+/// The part's name, and its number from 1 on where there may be more than one of its kind.
 impl fmt::Display for Part {
     ghost output = { λ p. Some (printed_part p) };
 

@@ -15,18 +15,19 @@ use Rattle.noria.specs.declared.fault.Fault.TheVariants.{Refused, BadRecipe, Bad
 abbrev pub refusal : ℕ → List ℕ → List ℕ
 refusal number name = ((codes "refused " ++ decimal number) ++ codes " ") ++ name
 
--- a refusal, and for a script or a schedule the line at which it is
+-- the refusal, and of a line of no known form its number
 abbrev pub printed : Fault → List ℕ
 printed (Refused why) = refusal (number_of why) (name_of why)
 printed (BadRecipe error) = refusal (recipe.number_of error) (recipe.name_of error)
-printed (BadScript line) = (refusal 30 (codes "BadScript") ++ codes " line ") ++ decimal line
+printed (BadScript line) =
+    (refusal (number_of refused.BadScript) (name_of refused.BadScript) ++ codes " line ") ++ decimal line
 
--- what a script's refusal ends a run with
+-- the fault of a script that is refused
 abbrev pub of_script : ScriptError → Fault
 of_script script.NoMemory = Refused refused.NoMemory
 of_script (script.BadScript line) = BadScript line
 
--- what a schedule's end before its last event ends a run with
+-- the fault of a schedule that is not run, or not to its end
 abbrev pub of_replay : ReplayError → Fault
 of_replay replay.NoMemory = Refused refused.NoMemory
 of_replay (replay.BadScript line) = BadScript line

@@ -20,7 +20,7 @@ pub enum Fault {
     BadScript { line: usize },
 }
 
-/// The number and the name of the refusal, and for a script or a schedule its line.
+/// The number and the name of the refusal, and of a line of no known form its number.
 impl fmt::Display for Fault {
     ghost output = { λ f. Some (printed f) };
 
