@@ -1,5 +1,5 @@
 -- What a session knows from the reply to its write.
-use Rattle.std.specs.Prelude.{◌≡◌, ◌⊎◌, ℕ, ◌<◌, List, Some, None, Result, Ok, Err}
+use Rattle.std.specs.Prelude.{◌≡◌, ◌⊎◌, ℕ, ◌<◌, ◌≤◌, List, Option, Some, None, IfSome, Result, Ok, Err}
 use mathlib.Core.List.{IsPrefix}
 use Rattle.row.specs.Bags.{Each}
 use Rattle.row.specs.declared.refused.Refused.{Refused}
@@ -11,6 +11,7 @@ use Rattle.model.specs.Histories.{Item, Author, log_of, authors_of}
 use Rattle.model.specs.Refusals.{refusal}
 use Rattle.model.specs.Legal.{limit}
 use Rattle.packet.specs.Answers.{AnswerView}
+use Rattle.book.specs.Fronts.{FrontView}
 
 -- the log in what was then seen decides so, and it has no item of the call
 pub record IsDecidedIn (p : Layout) (seen : List Item) (s m b : ℕ) (e : Change) (r : Refused) (now : List Item) : Type 0 where
@@ -27,6 +28,14 @@ pub record IsTo {F : Type 0} (s m : ℕ) (e : Change) (a : AnswerView F) : Type 
   pub session : a.session ≡ s
   pub number : a.number ≡ m
   pub entry : a.entry ≡ e
+
+-- the answer is newer than so many entries of the base shard's log: an accepted entry stands behind them, the log that refused has them all, and a refusal by no log has no age
+abbrev pub IsNewer : ℕ → ℕ → AnswerView FrontView → Option Refused → Type 0
+IsNewer base len a None = IfSome a.front (λ f. (f.base ≡ base) × (len ≤ a.index))
+IsNewer base len a (Some r) = (r ≡ NoMemory) ⊎ (r ≡ Stopped) ⊎ IfSome a.front (λ f. (f.base ≡ base) × (len ≤ f.len))
+
+abbrev pub IsNews : ℕ → ℕ → AnswerView FrontView → Type 0
+IsNews base len a = IsNewer base len a a.refused
 
 -- what is told is what the answer says: its index just where it was accepted, else why it was refused
 abbrev pub Says : {F : Type 0} → AnswerView F → Result ℕ Refused → Type 0

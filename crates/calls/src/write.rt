@@ -1,7 +1,7 @@
 //! Writes of a session, and what becomes of them.
 ghost use Rattle.std.specs.Prelude.{◌≡◌, ◌⊎◌, ◌<◌, ◌≤◌, true, IfErr, IfOk, IfSome, IsSome, Some, None};
 ghost use mathlib.Core.List.{IsPrefix};
-ghost use Rattle.calls.specs.Writes.{IsAnswer, IsTo, Says};
+ghost use Rattle.calls.specs.Writes.{IsAnswer, IsNews, IsTo, Says};
 ghost use Rattle.row.specs.Cells.{shard};
 ghost use Rattle.model.specs.{Entries.change_of, Histories.write, Logs.fits, Logs.key_of, Places.base_count, Places.layout_of, Places.shard_of};
 ghost use Rattle.protocol.specs.Bases.{last_number};
@@ -115,6 +115,8 @@ impl Call {
             self.number self.base (change_of entry.now)) self.base k t.seen)) }
         ensures untaken { IfSome result (λ t. IfErr t.answer (λ e. IsAnswer J.plan seen.now
             self.session self.number self.base (change_of entry.now) e t.seen)) }
+        ensures sure { IsTo self.session self.number (change_of entry.now) reply
+            → IsNews self.base front.now.len reply → IsSome result }
     {
         let answer = reply.into_answer();
         if !answer.is_of(self.session, self.number, entry) {
@@ -144,8 +146,7 @@ impl Call {
         ensures index { IfSome result (λ t. t.answer ≡ Ok answer.index) }
         ensures taken { IfSome result (λ t. IsAfter seen.now (write self.session self.number
             self.base (change_of entry.now)) self.base answer.index t.seen) }
-        ensures sure { front.now.len ≤ answer.index → IfSome answer.front (λ f. f.base ≡ self.base
-            → IsSome result) }
+        ensures sure { IsNews self.base front.now.len answer → IsSome result }
     {
         let index = answer.index();
         let (_, shown) = answer.into_parts();
@@ -178,6 +179,7 @@ impl Call {
         ensures refused { IfSome result (λ t. t.answer ≡ Err refused) }
         ensures untaken { IfSome result (λ t. IsAnswer J.plan seen.now self.session self.number
             self.base (change_of entry.now) refused t.seen) }
+        ensures sure { IsNews self.base front.now.len answer → IsSome result }
     {
         if refused == Refused::NoMemory || refused == Refused::Stopped {
             return Some(Told {
