@@ -3,7 +3,7 @@ ghost use Rattle.std.specs.Prelude.{◌≡◌, ◌⊎◌, ◌<◌, ◌≤◌, le
 ghost use Rattle.links.specs.Queued.{holds_any};
 
 use crate::line::Line;
-use crate::look::look;
+use crate::look::{LONG, give_way, look};
 use crate::queues::Queues;
 use row::refused::Refused;
 use std::alloc::{AllocError, Global};
@@ -54,6 +54,7 @@ pub enum Taking {
 pub struct Inbox<T: Drop> {
     line: Mutex<Line<T>>,
     ready: AtomicBool,
+    crowded: AtomicBool,
     moved: Condvar,
     edges: usize,
 }
@@ -64,6 +65,7 @@ impl<T: Drop> Drop for Inbox<T> {
         let Inbox {
             line: _,
             ready: _,
+            crowded: _,
             moved: _,
             edges: _,
         } = self;
@@ -88,6 +90,7 @@ impl<T: Drop> Inbox<T> {
         Ok(Inbox {
             line: Mutex::new(line),
             ready: AtomicBool::new(false),
+            crowded: AtomicBool::new(false),
             moved: Condvar::new(),
             edges,
         })
@@ -100,10 +103,11 @@ impl<T: Drop> Inbox<T> {
         self.edges
     }
 
-    /// Puts a message last on an edge, and wakes the taker if it is the first that waits. Refused
-    /// with `UnknownPlace` exactly where there is no such edge, else with `Stopped` once the inbox
-    /// is closed and with `NoMemory` for want of room. A refused put leaves the inbox as it was,
-    /// and hands the message back. Cost: one lock, and constant time, spread over many.
+    /// Puts a message last on an edge, and wakes the taker if it is the first that waits. Where 4096
+    /// wait it then gives way to the taker some times. Refused with `UnknownPlace` exactly where
+    /// there is no such edge, else with `Stopped` once the inbox is closed and with `NoMemory` for
+    /// want of room. A refused put leaves the inbox as it was, and hands the message back. Cost: one
+    /// lock, and constant time, spread over many.
     pub fn put<R: Wait>(&self, rt: &R, edge: usize, message: T) -> Result<(), Unsent<T>>
         ensures back { IfErr result (λ u. u.message ≡ message) }
         ensures unknown { self.now ≤ edge
@@ -119,6 +123,7 @@ impl<T: Drop> Inbox<T> {
                 if first {
                     self.moved.notify_one();
                 }
+                give_way(&self.crowded);
                 Ok(())
             }
             Err(unsent) => Err(unsent),
@@ -135,6 +140,9 @@ impl<T: Drop> Inbox<T> {
         let put = line.put(edge, message);
         if matches!(put, Ok(true)) {
             self.ready.store(true, Ordering::SeqCst);
+        }
+        if line.is_crowded() {
+            self.crowded.store(true, Ordering::SeqCst);
         }
         put
     }
@@ -155,12 +163,13 @@ impl<T: Drop> Inbox<T> {
         if !taken.is_empty() {
             return Taking::Taken;
         }
-        look(&self.ready);
+        look(&self.ready, LONG);
         let mut line = self
             .moved
             .wait_while(rt, self.line.lock(rt), |line| line.is_idle());
         let taking = line.give(taken);
         self.ready.store(!line.is_idle(), Ordering::SeqCst);
+        self.crowded.store(false, Ordering::SeqCst);
         taking
     }
 

@@ -1,6 +1,6 @@
 //! What stands behind the lock of an inbox.
-ghost use Rattle.std.specs.Prelude.{◌≡◌, ◌⊎◌, ◌<◌, ◌&&◌, [], length, not, true, false, replicate, IfOk, IfErr, IsErrAnd, OnOk, OnErr};
-ghost use Rattle.links.specs.Queued.{LineView, holds_any, put_on};
+ghost use Rattle.std.specs.Prelude.{◌≡◌, ◌⊎◌, ◌<◌, ◌&&◌, ◌+◌, [], length, min, nat_le, not, true, false, replicate, IfOk, IfErr, IsErrAnd, OnOk, OnErr};
+ghost use Rattle.links.specs.Queued.{crowd_limit, holds_any, put_on};
 
 use crate::inbox::{Taking, Unsent};
 use crate::queues::Queues;
@@ -9,11 +9,16 @@ use std::alloc::{AllocError, Global};
 use std::marker::Model;
 use std::mem;
 
-/// The queues that are filled, and whether they are closed.
+/// From how many messages on who puts one gives way to the taker.
+const CROWD: u32 = 4096;
+
+/// The queues that are filled, how many messages were put since these were last taken, and whether
+/// they are closed.
 #[derive(Drop)]
 pub struct Line<T: Drop> {
     queues: Queues<T>,
     filled: bool,
+    waiting: u32,
     closed: bool,
 }
 
@@ -23,7 +28,7 @@ impl<T: Drop> Model for Line<T> {
 
     ghost Value = { LineView T };
 
-    ghost view = { λ l. record { queues = l.queues; closed = l.closed } };
+    ghost view = { λ l. record { queues = l.queues; waiting = l.waiting; closed = l.closed } };
 
     ghost invariant = { λ l. l.filled ≡ holds_any l.queues };
 }
@@ -31,12 +36,17 @@ impl<T: Drop> Model for Line<T> {
 impl<T: Drop> Line<T> {
     /// An open line with empty queues. Errors: memory only.
     pub fn new(alloc: Global, edges: usize) -> Result<Line<T>, AllocError>
-        ensures { IfOk result (λ l. l ≡ record { queues = replicate edges []; closed = false }) }
+        ensures { IfOk result (λ l. l ≡ record {
+          queues = replicate edges [];
+          waiting = 0;
+          closed = false;
+        }) }
     {
         let queues = Queues::new(alloc, edges)?;
         Ok(Line {
             queues,
             filled: false,
+            waiting: 0,
             closed: false,
         })
     }
@@ -48,10 +58,19 @@ impl<T: Drop> Line<T> {
         !self.filled && !self.closed
     }
 
+    /// Whether so many messages wait that who puts one is to give way.
+    pub fn is_crowded(&self) -> bool
+        ensures { result ≡ nat_le crowd_limit self.now.waiting }
+    {
+        self.waiting >= CROWD
+    }
+
     /// Puts a message last on an edge, and says whether it is the first of all that wait.
     pub fn put(&mut self, edge: usize, message: T) -> Result<bool, Unsent<T>>
-        ensures put { OnOk result (self.new
-            ≡ record self.old { queues = put_on self.old.queues edge message }) }
+        ensures put { OnOk result (self.new ≡ record self.old {
+          queues = put_on self.old.queues edge message;
+          waiting = min (self.old.waiting + 1) u32.MAX;
+        }) }
         ensures first { IfOk result (λ f. f ≡ not (holds_any self.old.queues)) }
         ensures refused { OnErr result (self.new ≡ self.old) }
         ensures back { IfErr result (λ u. u.message ≡ message) }
@@ -66,7 +85,10 @@ impl<T: Drop> Line<T> {
             return Err(Unsent::new(Refused::Stopped, message));
         }
         match self.queues.put(edge, message) {
-            Ok(()) => Ok(!mem::replace(&mut self.filled, true)),
+            Ok(()) => {
+                self.waiting = self.waiting.saturating_add(1);
+                Ok(!mem::replace(&mut self.filled, true))
+            }
             Err(failed) => Err(Unsent::new(Refused::NoMemory, failed.value)),
         }
     }
@@ -76,7 +98,8 @@ impl<T: Drop> Line<T> {
         requires empty { holds_any taken.old ≡ false }
         ensures count { length taken.new ≡ length taken.old }
         ensures taken { result ≡ Taking.Taken → (taken.new ≡ self.old.queues)
-            × (self.new ≡ record self.old { queues = taken.old }) × (holds_any taken.new ≡ true) }
+            × (self.new ≡ record self.old { queues = taken.old; waiting = 0 })
+            × (holds_any taken.new ≡ true) }
         ensures closed { result ≡ Taking.Closed → (taken.new ≡ taken.old) × (self.new ≡ self.old) }
         ensures gives { holds_any self.old.queues ≡ true
             → length taken.old ≡ length self.old.queues → result ≡ Taking.Taken }
@@ -86,6 +109,7 @@ impl<T: Drop> Line<T> {
         }
         mem::swap(&mut self.queues, taken);
         self.filled = false;
+        self.waiting = 0;
         Taking::Taken
     }
 

@@ -86,3 +86,23 @@ fn a_refused_put_leaves_the_inbox(rt: HostRuntime) -> Result<(), Fail> {
     put?;
     Ok(())
 }
+
+/// More messages than those from which on who puts one gives way.
+const CROWD: u64 = 5000;
+
+fn put_crowd<R: Wait>(rt: &R, inbox: &Inbox<u64>) -> Result<(), Refused> {
+    for message in 0..CROWD {
+        put(rt, inbox, 0, message)?;
+    }
+    Ok(())
+}
+
+// Where nobody takes, who puts gives way for a while and then goes on.
+#[test]
+fn a_crowd_is_let_in(rt: HostRuntime) -> Result<(), Fail> {
+    let (inbox, mut queues) = pair(rt.alloc(), 1)?;
+    put_crowd(&rt, &inbox)?;
+    let taken = inbox.take_all(&rt, &mut queues) == Taking::Taken;
+    assert!(rt; taken && queues.len(0) == 5000);
+    Ok(())
+}
