@@ -1,5 +1,5 @@
 //! The command line.
-ghost use Rattle.std.specs.Prelude.{◌≡◌, ◌≤◌, ◌==◌, map, not, string_bytes};
+ghost use Rattle.std.specs.Prelude.{◌≡◌, ◌≤◌, ◌==◌, map, not, string_bytes, OnOk, OnErr};
 ghost use Rattle.script.specs.Arguments.{is_form};
 
 use crate::fault::Fault;
@@ -44,7 +44,8 @@ pub fn command<
 
 // 0 where all was run; else 1, and the refusal goes to `err`.
 fn status_of<E: Write>(ran: Result<(), Fault>, err: &mut E) -> u8
-    ensures { result ≤ 1 }
+    ensures ran { OnOk ran (result ≡ 0) }
+    ensures refused { OnErr ran (result ≡ 1) }
 {
     match ran {
         Ok(()) => 0,
