@@ -2,7 +2,7 @@
 ghost use Rattle.std.specs.Prelude.{◌≡◌, not, ◌&&◌, true, false};
 ghost use Rattle.links.specs.Rings.{BellView, later, rang_for};
 
-use crate::look::{SHORT, look};
+use crate::look::look;
 use std::marker::Model;
 use std::sync::atomic::{AtomicBool, Ordering};
 use std::sync::{Condvar, Mutex, Wait};
@@ -114,7 +114,7 @@ impl Bell {
     /// an earlier call counts for none. It looks a few times before it sleeps. A session numbers
     /// its calls upwards.
     pub fn wait<R: Wait>(&self, rt: &R, call: u64) -> Woken {
-        look(&self.ready, SHORT);
+        look(&self.ready);
         let mut heard = self
             .moved
             .wait_while(rt, self.heard.lock(rt), |heard| heard.is_quiet(call));

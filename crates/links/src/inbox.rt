@@ -1,15 +1,16 @@
-//! The one inbox of a domain's thread.
+//! The inbox of a domain.
 ghost use Rattle.std.specs.Prelude.{◌≡◌, ◌⊎◌, ◌<◌, ◌≤◌, length, true, IfOk, IfErr, IsErrAnd};
 ghost use Rattle.links.specs.Queued.{holds_any};
 
 use crate::line::Line;
-use crate::look::{LONG, give_way, look};
+use crate::look::give_way;
 use crate::queues::Queues;
+use crossbeam_utils::sync::EventCount;
 use row::refused::Refused;
 use std::alloc::{AllocError, Global};
 use std::marker::Model;
 use std::sync::atomic::{AtomicBool, Ordering};
-use std::sync::{Condvar, Mutex, Wait};
+use std::sync::{Arc, Mutex, Wait};
 
 /// A message that was not put, and why.
 #[derive(Drop)]
@@ -40,22 +41,25 @@ impl<T: Drop> From<Unsent<T>> for Refused {
 pub enum Taking {
     /// The queues of the caller hold a message.
     Taken,
+    /// They hold none, and some may come.
+    Empty,
     /// They hold none, and none will come.
     Closed,
 }
 
-/// The inbox of a thread: a queue for each edge that leads to it, all behind one lock. Any thread
+/// The inbox of a domain: a queue for each edge that leads to it, all behind one lock. Any thread
 /// puts; one takes. A contract sees how many edges there are. What the queues hold no contract
 /// says, since others change it; what a put and a take make of them, `Queues` and the type of the
 /// messages say.
 ///
 /// The taker swaps its emptied queues for the filled ones, as one does with two buffers: the lock
-/// is held for a few words, however many messages there are.
+/// is held for a few words, however many messages there are. A take waits for no message: a thread
+/// that takes from several inboxes waits at the event count that they share (`wait_until`).
 pub struct Inbox<T: Drop> {
     line: Mutex<Line<T>>,
     ready: AtomicBool,
     crowded: AtomicBool,
-    moved: Condvar,
+    moved: Arc<EventCount>,
     edges: usize,
 }
 
@@ -81,9 +85,9 @@ impl<T: Drop> Model for Inbox<T> {
 }
 
 impl<T: Drop> Inbox<T> {
-    /// An open inbox with no message, of this many edges. Errors: memory only. Cost: linear in the
-    /// edges.
-    pub fn new(alloc: Global, edges: usize) -> Result<Inbox<T>, AllocError>
+    /// An open inbox with no message, of this many edges, that tells the event count of what comes.
+    /// Errors: memory only. Cost: linear in the edges.
+    pub fn new(alloc: Global, edges: usize, moved: Arc<EventCount>) -> Result<Inbox<T>, AllocError>
         ensures { IfOk result (λ i. i ≡ edges) }
     {
         let line = Line::new(alloc, edges)?;
@@ -91,7 +95,7 @@ impl<T: Drop> Inbox<T> {
             line: Mutex::new(line),
             ready: AtomicBool::new(false),
             crowded: AtomicBool::new(false),
-            moved: Condvar::new(),
+            moved,
             edges,
         })
     }
@@ -103,11 +107,10 @@ impl<T: Drop> Inbox<T> {
         self.edges
     }
 
-    /// Puts a message last on an edge, and wakes the taker if it is the first that waits. Where 4096
-    /// wait it then gives way to the taker some times. Refused with `UnknownPlace` exactly where
-    /// there is no such edge, else with `Stopped` once the inbox is closed and with `NoMemory` for
-    /// want of room. A refused put leaves the inbox as it was, and hands the message back. Cost: one
-    /// lock, and constant time, spread over many.
+    /// Puts a message last on an edge, and wakes the taker if it is the first that waits. Refused
+    /// with `UnknownPlace` exactly where there is no such edge, else with `Stopped` once the inbox is
+    /// closed and with `NoMemory` for want of room. A refused put leaves the inbox as it was, and
+    /// hands the message back. Cost: one lock, and constant time, spread over many.
     pub fn put<R: Wait>(&self, rt: &R, edge: usize, message: T) -> Result<(), Unsent<T>>
         ensures back { IfErr result (λ u. u.message ≡ message) }
         ensures unknown { self.now ≤ edge
@@ -123,11 +126,22 @@ impl<T: Drop> Inbox<T> {
                 if first {
                     self.moved.notify_one();
                 }
-                give_way(&self.crowded);
                 Ok(())
             }
             Err(unsent) => Err(unsent),
         }
+    }
+
+    /// Whether 4096 messages or more waited at the last put, and none was taken since. It takes no
+    /// lock.
+    pub fn is_crowded(&self) -> bool {
+        self.crowded.load(Ordering::SeqCst)
+    }
+
+    /// Gives way to the taker some times where the inbox is crowded: for who puts in another thread
+    /// than the taker's. It takes no lock.
+    pub fn give_way(&self) {
+        give_way(&self.crowded);
     }
 
     // The lock is free again before the taker wakes.
@@ -147,26 +161,32 @@ impl<T: Drop> Inbox<T> {
         put
     }
 
-    /// Waits until a message waits or the inbox is closed, and swaps the queues of the caller for
-    /// those that are filled. It looks a few times before it sleeps. Queues that still hold a
-    /// message stay as they are, and it does not wait: what was taken first comes first. `Closed`
-    /// comes only once the inbox is closed and all of it was taken; the queues then stay, and are
-    /// empty. Takes no memory and copies no message. Cost: one lock, and linear in the edges.
+    /// Whether a message waits, or the inbox is closed. It takes no lock.
+    pub fn is_ready(&self) -> bool {
+        self.ready.load(Ordering::SeqCst)
+    }
+
+    /// Swaps the queues of the caller for those that are filled. Queues that still hold a message
+    /// stay as they are: what was taken first comes first. `Empty` where no message waits, `Closed`
+    /// once the inbox is closed and all of it was taken; the queues then stay, and are empty. It
+    /// waits for no message, takes no memory and copies no message. Cost: a look, one lock where
+    /// the inbox is ready, and linear in the edges.
     pub fn take_all<R: Wait>(&self, rt: &R, taken: &mut Queues<T>) -> Taking
         requires count { length taken.old ≡ self.now }
         ensures count { length taken.new ≡ length taken.old }
         ensures taken { result ≡ Taking.Taken → holds_any taken.new ≡ true }
         ensures kept { holds_any taken.old ≡ true → (result ≡ Taking.Taken)
             × (taken.new ≡ taken.old) }
+        ensures empty { result ≡ Taking.Empty → taken.new ≡ taken.old }
         ensures closed { result ≡ Taking.Closed → taken.new ≡ taken.old }
     {
         if !taken.is_empty() {
             return Taking::Taken;
         }
-        look(&self.ready, LONG);
-        let mut line = self
-            .moved
-            .wait_while(rt, self.line.lock(rt), |line| line.is_idle());
+        if !self.is_ready() {
+            return Taking::Empty;
+        }
+        let mut line = self.line.lock(rt);
         let taking = line.give(taken);
         self.ready.store(!line.is_idle(), Ordering::SeqCst);
         self.crowded.store(false, Ordering::SeqCst);

@@ -6,7 +6,7 @@
 pub mod bell;
 pub mod inbox;
 mod line;
-mod look;
+pub mod look;
 pub mod mailbox;
 pub mod queues;
 pub mod stops;

@@ -93,19 +93,27 @@ impl<T: Drop> Line<T> {
         }
     }
 
-    /// Gives all that wait for the empty queues of the taker.
+    /// Gives all that wait for the empty queues of the taker. Where none waits it is `Closed` if the
+    /// line is, else `Empty`.
     pub fn give(&mut self, taken: &mut Queues<T>) -> Taking
         requires empty { holds_any taken.old ≡ false }
         ensures count { length taken.new ≡ length taken.old }
         ensures taken { result ≡ Taking.Taken → (taken.new ≡ self.old.queues)
             × (self.new ≡ record self.old { queues = taken.old; waiting = 0 })
             × (holds_any taken.new ≡ true) }
-        ensures closed { result ≡ Taking.Closed → (taken.new ≡ taken.old) × (self.new ≡ self.old) }
+        ensures empty { result ≡ Taking.Empty → (self.old.closed ≡ false)
+            × (taken.new ≡ taken.old) × (self.new ≡ self.old) }
+        ensures closed { result ≡ Taking.Closed → (self.old.closed ≡ true)
+            × (taken.new ≡ taken.old) × (self.new ≡ self.old) }
         ensures gives { holds_any self.old.queues ≡ true
             → length taken.old ≡ length self.old.queues → result ≡ Taking.Taken }
     {
         if !self.filled || self.queues.edges() != taken.edges() {
-            return Taking::Closed;
+            return if self.closed {
+                Taking::Closed
+            } else {
+                Taking::Empty
+            };
         }
         mem::swap(&mut self.queues, taken);
         self.filled = false;

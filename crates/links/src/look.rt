@@ -1,21 +1,25 @@
-//! How a thread gives way to others: some looks before a sleep, and some turns behind a crowd.
+//! How a thread waits and gives way to others: some looks before a sleep, and some turns behind a
+//! crowd.
+use crossbeam_utils::sync::EventCount;
+use std::sync::Wait;
 use std::sync::atomic::{AtomicBool, Ordering};
 use std::thread;
 
 /// How often a session looks for its reply. A look that gives way to nobody takes a quarter of a
 /// microsecond; a sleep and its wake take several.
-pub const SHORT: u32 = 32;
+const SHORT: u32 = 32;
 
-/// How often a domain looks for its next message, for which a session may wait behind several.
-pub const LONG: u32 = 128;
+/// How often a thread looks for messages to its domains, for which a session may wait behind
+/// several.
+const LONG: u32 = 128;
 
 /// How often who has put a message gives way to a taker that is behind.
 const TURNS: u32 = 64;
 
-/// Looks until the flag is up, or this often. It gives way after each look, since a store has more
-/// threads than a machine has processors: whoever has work then runs. It takes no lock.
-pub fn look(ready: &AtomicBool, looks: u32) {
-    for _ in 0..looks {
+/// Looks until the flag is up, or a few times. It gives way after each look, since a store may have
+/// more threads than a machine has processors: whoever has work then runs. It takes no lock.
+pub(crate) fn look(ready: &AtomicBool) {
+    for _ in 0..SHORT {
         if ready.load(Ordering::SeqCst) {
             return;
         }
@@ -23,9 +27,27 @@ pub fn look(ready: &AtomicBool, looks: u32) {
     }
 }
 
+/// Waits until there is work, as `is_ready` says: it looks some times, giving way after each look,
+/// and then sleeps until the event count tells of a change. Who makes it ready does so first, and
+/// then notifies. It may return with nothing to do.
+pub fn wait_until<R: Wait, F: Fn() -> bool>(rt: &R, moved: &EventCount, is_ready: F)
+    requires { F.IsAlwaysCallable is_ready }
+{
+    for _ in 0..LONG {
+        if is_ready() {
+            return;
+        }
+        thread::yield_now();
+    }
+    let key = moved.prepare_wait();
+    if !is_ready() {
+        key.wait(rt);
+    }
+}
+
 /// Gives way to other threads until the flag is down, but no more than a few times: whoever is to
 /// take it down may itself be giving way to this thread. It takes no lock.
-pub fn give_way(crowded: &AtomicBool) {
+pub(crate) fn give_way(crowded: &AtomicBool) {
     for _ in 0..TURNS {
         if !crowded.load(Ordering::SeqCst) {
             return;

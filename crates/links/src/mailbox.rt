@@ -1,5 +1,5 @@
 //! The place where a session finds the reply to its call.
-use crate::look::{SHORT, look};
+use crate::look::look;
 use crate::stops::Stops;
 use std::sync::atomic::{AtomicBool, Ordering};
 use std::sync::{Condvar, Mutex, Wait};
@@ -44,7 +44,7 @@ impl<T: Drop> Mailbox<T> {
     /// Waits for a reply and takes it. `None` where there is none and the domain that is to send it
     /// has stopped: what it sent before is taken first. Cost: one lock, beside the wait.
     pub fn wait<R: Wait>(&self, rt: &R, stops: &Stops, sender: usize) -> Option<T> {
-        look(&self.ready, SHORT);
+        look(&self.ready);
         let mut reply = self.moved.wait_while(rt, self.reply.lock(rt), |reply| {
             reply.is_none() && !stops.has(sender)
         });
@@ -54,7 +54,7 @@ impl<T: Drop> Mailbox<T> {
 
     /// Waits for a reply and takes it, whatever has stopped. Cost: one lock, beside the wait.
     pub fn receive<R: Wait>(&self, rt: &R) -> Option<T> {
-        look(&self.ready, SHORT);
+        look(&self.ready);
         let mut reply = self
             .moved
             .wait_while(rt, self.reply.lock(rt), |reply| reply.is_none());

@@ -1,7 +1,7 @@
-//! The order in which a thread takes what comes to it.
-ghost use Rattle.std.specs.Prelude.{◌≡◌, ◌+◌, [], false, min, length, replicate, IfNone, IfOk, IfSome};
+//! The order in which a domain takes what comes to it.
+ghost use Rattle.std.specs.Prelude.{◌≡◌, ◌+◌, [], true, false, min, length, replicate, IfNone, IfOk, IfSome};
 ghost use Rattle.links.specs.Queued.{holds_any};
-ghost use Rattle.links.specs.Turns.{IsFirst, IsNext};
+ghost use Rattle.links.specs.Turns.{IsFirst};
 
 use crate::inbox::{Inbox, Taking};
 use crate::queues::Queues;
@@ -9,9 +9,9 @@ use std::alloc::{AllocError, Global};
 use std::marker::Model;
 use std::sync::Wait;
 
-/// The messages that a thread has taken from its inbox and has not begun, and the number of its
-/// turn. It goes on with an edge until no message of it is left, then with the next edge; it takes
-/// more where none is left on any.
+/// The messages that were taken from the inbox of a domain and are not begun, and the number of
+/// its turn. It goes on with an edge until no message of it is left, then with the next edge; more
+/// are taken where none is left on any.
 #[derive(Drop)]
 pub struct Turns<T: Drop> {
     taken: Queues<T>,
@@ -52,30 +52,26 @@ impl<T: Drop> Turns<T> {
         self.turn
     }
 
-    /// The next message: the first of its edge. It waits until there is one; `None` once the inbox
-    /// is closed and no message is left. Takes no memory. Cost: constant, spread over many; one
-    /// lock where none was left.
-    pub fn next<R: Wait>(&mut self, rt: &R, inbox: &Inbox<T>) -> Option<T>
+    /// Takes what waits in the inbox, where none is left of what was taken before. It waits for
+    /// nobody, and takes no memory. Cost: that of `Inbox::take_all`.
+    pub fn take<R: Wait>(&mut self, rt: &R, inbox: &Inbox<T>) -> Taking
         requires edges { length self.old.waiting ≡ inbox.now }
-        ensures next { IfSome result (λ m. IsNext self.old.waiting m self.new.waiting) }
-        ensures counts { IfSome result (λ _. self.new.turn ≡ min (self.old.turn + 1) u64.MAX) }
-        ensures ends { IfNone result (holds_any self.old.waiting ≡ false) }
+        ensures taken { result ≡ Taking.Taken → holds_any self.new.waiting ≡ true }
+        ensures kept { holds_any self.old.waiting ≡ true → (result ≡ Taking.Taken)
+            × (self.new.waiting ≡ self.old.waiting) }
+        ensures empty { result ≡ Taking.Empty → self.new.waiting ≡ self.old.waiting }
+        ensures closed { result ≡ Taking.Closed → self.new.waiting ≡ self.old.waiting }
+        ensures first { self.new.edge ≡ 0 }
+        ensures turn { self.new.turn ≡ self.old.turn }
         ensures edges { length self.new.waiting ≡ length self.old.waiting }
     {
-        if let Some(message) = self.pop() {
-            return Some(message);
-        }
-        match inbox.take_all(rt, &mut self.taken) {
-            Taking::Taken => {
-                self.edge = 0;
-                self.pop()
-            }
-            Taking::Closed => None,
-        }
+        self.edge = 0;
+        inbox.take_all(rt, &mut self.taken)
     }
 
-    // The first message of the first edge that has one, from the edge on that it is at.
-    fn pop(&mut self) -> Option<T>
+    /// The next message that was taken: the first of the first edge that has one, from the edge on
+    /// that it is at. Takes no memory. Cost: constant, spread over many.
+    pub fn pop(&mut self) -> Option<T>
         ensures first { IfSome result (λ m. IsFirst self.old.waiting m self.new.waiting) }
         ensures counts { IfSome result (λ _. self.new.turn ≡ min (self.old.turn + 1) u64.MAX) }
         ensures stays { IfNone result (self.new ≡ self.old) }

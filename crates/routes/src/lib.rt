@@ -2,5 +2,6 @@
 //! session, and the plan and the book that all share.
 #![tactic(auto)]
 
+pub mod crews;
 pub mod mail;
 pub mod routes;

@@ -5,10 +5,12 @@ ghost use Rattle.model.specs.{Legal.most_sessions, Places.base_count, Places.sou
 ghost use Rattle.packet.specs.Readers.{readers};
 ghost use Rattle.schedule.specs.Codes.{reader_in};
 
+use crate::crews::{Crews, Watches};
 use crate::mail::{BaseMail, Reply, ViewMail};
 use book::book::Book;
 use book::front::Front;
 use book::law::Naming;
+use crossbeam_utils::sync::EventCount;
 use links::bell::{Bell, Woken};
 use links::inbox::Inbox;
 use links::mailbox::Mailbox;
@@ -25,14 +27,15 @@ use std::alloc::{AllocError, Global};
 use std::marker::Model;
 use std::sync::Wait;
 
-/// The plan, the book, and the ways between the threads: an inbox for each domain, what the
-/// sessions wait at, and which domains have begun and stopped. All of it is made at the start, so
-/// that a reply, an acknowledgement or a ring takes no memory.
+/// The plan, the book, and the ways between the threads: an inbox for each domain, what the threads
+/// of the domains and the sessions wait at, and which domains have begun and stopped. All of it is
+/// made at the start, so that a reply, an acknowledgement or a ring takes no memory.
 pub struct Routes<J: Naming> {
     plan: Plan,
     book: Book<J>,
     sources: Vec<usize>,
     readers: Vec<Reader>,
+    watches: Watches,
     inboxes: Inboxes<J>,
     mailboxes: Mailboxes<J>,
     states: States,
@@ -46,6 +49,7 @@ impl<J: Naming> Drop for Routes<J> {
             book: _,
             sources: _,
             readers: _,
+            watches: _,
             inboxes: _,
             mailboxes: _,
             states: _,
@@ -89,13 +93,20 @@ struct Counts {
 }
 
 impl<J: Naming> Inboxes<J> {
-    fn new(alloc: Global, of: Counts) -> Result<Inboxes<J>, AllocError> {
+    fn new(alloc: Global, of: Counts, watches: &Watches) -> Result<Inboxes<J>, AllocError> {
         let edges = of.stages.saturating_add(of.sessions);
         let domains = of.sources.saturating_add(of.views);
+        let to_stage = domains.saturating_add(of.sessions);
         Ok(Inboxes {
-            bases: new_inboxes(alloc, of.bases, edges)?,
-            stages: new_inboxes(alloc, of.stages, domains.saturating_add(of.sessions))?,
-            views: new_inboxes(alloc, of.views, edges)?,
+            bases: new_inboxes(alloc, watches, of.bases, edges, |base| Spot::Base(base))?,
+            stages: new_inboxes(
+                alloc,
+                watches,
+                of.stages,
+                to_stage,
+                |stage| Spot::Stage(stage),
+            )?,
+            views: new_inboxes(alloc, watches, of.views, edges, |reader| Spot::View(reader))?,
         })
     }
 }
@@ -139,13 +150,14 @@ impl<J: Naming> Model for Routes<J> {
 }
 
 impl<J: Naming> Routes<J> {
-    /// The ways of a store of this plan for this many sessions, on which nothing is. Errors: memory
-    /// only.
+    /// The ways of a store of this plan for this many sessions, on which nothing is, and whose
+    /// domains this many threads serve, as `Crews` says. Errors: memory only.
     pub fn new(
         alloc: Global,
         plan: Plan,
         book: Book<J>,
         sessions: usize,
+        threads: usize,
     ) -> Result<Routes<J>, AllocError>
         requires plan { plan ≡ J.plan }
         requires sessions { sessions ≤ most_sessions }
@@ -159,14 +171,17 @@ impl<J: Naming> Routes<J> {
             sources: sources.len(),
             sessions,
         };
+        let crews = Crews::new(threads, of.bases, of.stages, of.views);
+        let watches = Watches::new(alloc, crews)?;
         Ok(Routes {
-            inboxes: Inboxes::new(alloc, of)?,
+            inboxes: Inboxes::new(alloc, of, &watches)?,
             mailboxes: Mailboxes::new(alloc, of)?,
             states: States::new(alloc, of)?,
             plan,
             book,
             sources,
             readers,
+            watches,
         })
     }
 
@@ -197,6 +212,16 @@ impl<J: Naming> Routes<J> {
         self.readers.as_slice()
     }
 
+    /// How the domains are shared out among threads.
+    pub fn crews(&self) -> Crews {
+        self.watches.crews()
+    }
+
+    /// What tells a thread that a message came to one of its domains.
+    pub fn watch(&self, thread: usize) -> &EventCount {
+        self.watches.of(thread)
+    }
+
     /// The inbox of a base shard: an edge for each stage shard, then one for each session.
     pub fn base_inbox(&self, base: usize) -> Option<&Inbox<BaseMail<J>>> {
         self.inboxes.bases.get(base)
@@ -219,7 +244,15 @@ impl<J: Naming> Routes<J> {
         ensures only { IfErr result (λ e. (e ≡ Refused.NoMemory) ⊎ (e ≡ Refused.Stopped)) }
     {
         let edge = self.inboxes.stages.len().saturating_add(session);
-        put(rt, self.inboxes.bases.get(mail.base()), edge, mail)
+        let base = mail.base();
+        self.put(
+            rt,
+            self.inboxes.bases.get(base),
+            edge,
+            mail,
+            None,
+            Spot::Base(base),
+        )
     }
 
     /// Sends a stage shard's request to a source, as `to_base`.
@@ -237,7 +270,8 @@ impl<J: Naming> Routes<J> {
             return Err(Refused::Stopped);
         };
         let mail = BaseMail::request(*base, stage, request);
-        put(rt, self.inboxes.bases.get(*base), stage, mail)
+        let (from, to) = (Some(Spot::Stage(stage)), Spot::Base(*base));
+        self.put(rt, self.inboxes.bases.get(*base), stage, mail, from, to)
     }
 
     /// Sends a message to a stage shard, as `to_base`: a packet from a source, a request from a
@@ -252,12 +286,19 @@ impl<J: Naming> Routes<J> {
         ensures only { IfErr result (λ e. (e ≡ Refused.NoMemory) ⊎ (e ≡ Refused.Stopped)) }
     {
         let (sources, views) = (self.sources.len(), self.inboxes.views.len());
-        let edge = match &message {
-            ToStage::Packet { .. } => from,
-            ToStage::Request(_) => sources.saturating_add(from),
-            ToStage::Order(_) => sources.saturating_add(views).saturating_add(from),
+        let (edge, from) = match &message {
+            ToStage::Packet { .. } => (from, self.source_at(from)),
+            ToStage::Request(_) => (sources.saturating_add(from), Some(Spot::View(from))),
+            ToStage::Order(_) => (sources.saturating_add(views).saturating_add(from), None),
         };
-        put(rt, self.inboxes.stages.get(stage), edge, message)
+        self.put(
+            rt,
+            self.inboxes.stages.get(stage),
+            edge,
+            message,
+            from,
+            Spot::Stage(stage),
+        )
     }
 
     /// Sends what comes to a view shard, as `to_base`: a packet from a stage shard, or what a
@@ -271,15 +312,19 @@ impl<J: Naming> Routes<J> {
     ) -> Result<(), Refused>
         ensures only { IfErr result (λ e. (e ≡ Refused.NoMemory) ⊎ (e ≡ Refused.Stopped)) }
     {
-        let edge = match &mail {
-            ViewMail::Packet { .. } => from,
-            ViewMail::Want(_) | ViewMail::Order { .. } => self
-                .inboxes
-                .stages
-                .len()
-                .saturating_add(from),
+        let stages = self.inboxes.stages.len();
+        let (edge, from) = match &mail {
+            ViewMail::Packet { .. } => (from, Some(Spot::Stage(from))),
+            ViewMail::Want(_) | ViewMail::Order { .. } => (stages.saturating_add(from), None),
         };
-        put(rt, self.inboxes.views.get(reader), edge, mail)
+        self.put(
+            rt,
+            self.inboxes.views.get(reader),
+            edge,
+            mail,
+            from,
+            Spot::View(reader),
+        )
     }
 
     /// Gives a session the reply to its write. It takes no memory.
@@ -336,14 +381,14 @@ impl<J: Naming> Routes<J> {
         }
     }
 
-    /// Says that a domain's thread has begun, to who starts the store.
+    /// Says that a domain has begun, to who starts the store.
     pub fn begin<R: Wait>(&self, rt: &R, domain: Spot) {
         if let Some(mailbox) = self.states.started.get(self.place(domain)) {
             mailbox.send(rt, ());
         }
     }
 
-    /// Waits until a domain's thread has begun; false where it has stopped instead.
+    /// Waits until a domain has begun; false where it has stopped instead.
     pub fn has_begun<R: Wait>(&self, rt: &R, domain: Spot) -> bool {
         let place = self.place(domain);
         match self.states.started.get(place) {
@@ -375,6 +420,50 @@ impl<J: Naming> Routes<J> {
         close_all(rt, self.inboxes.bases.as_slice());
         close_all(rt, self.inboxes.stages.as_slice());
         close_all(rt, self.inboxes.views.as_slice());
+    }
+
+    // The base shard that is a source.
+    fn source_at(&self, source: usize) -> Option<Spot> {
+        match self.sources.get(source) {
+            Some(base) => Some(Spot::Base(*base)),
+            None => None,
+        }
+    }
+
+    // Puts a message of a domain or a session on an edge of the inbox of a domain, and gives way
+    // to that where it is behind and another thread serves it.
+    fn put<T: Drop, R: Wait>(
+        &self,
+        rt: &R,
+        inbox: Option<&Inbox<T>>,
+        edge: usize,
+        message: T,
+        from: Option<Spot>,
+        to: Spot,
+    ) -> Result<(), Refused>
+        ensures only { IfErr result (λ e. (e ≡ Refused.NoMemory) ⊎ (e ≡ Refused.Stopped)) }
+    {
+        let Some(inbox) = inbox else {
+            return Err(Refused::Stopped);
+        };
+        match inbox.put(rt, edge, message) {
+            Ok(()) => (),
+            Err(unsent) if unsent.refused == Refused::NoMemory => return Err(Refused::NoMemory),
+            Err(_) => return Err(Refused::Stopped),
+        }
+        if inbox.is_crowded() && !self.are_together(from, to) {
+            inbox.give_way();
+        }
+        Ok(())
+    }
+
+    // Whether one thread serves both domains; a session has a thread of its own.
+    fn are_together(&self, from: Option<Spot>, to: Spot) -> bool {
+        let crews = self.watches.crews();
+        match from {
+            Some(from) => crews.thread_of(from) == crews.thread_of(to),
+            None => false,
+        }
     }
 
     // The place of a domain's flag: the base shards come first, then the stage shards.
@@ -411,25 +500,6 @@ impl<J: Naming> Routes<J> {
     }
 }
 
-// Puts a message on an edge of an inbox.
-fn put<T: Drop, R: Wait>(
-    rt: &R,
-    inbox: Option<&Inbox<T>>,
-    edge: usize,
-    message: T,
-) -> Result<(), Refused>
-    ensures only { IfErr result (λ e. (e ≡ Refused.NoMemory) ⊎ (e ≡ Refused.Stopped)) }
-{
-    let Some(inbox) = inbox else {
-        return Err(Refused::Stopped);
-    };
-    match inbox.put(rt, edge, message) {
-        Ok(()) => Ok(()),
-        Err(unsent) if unsent.refused == Refused::NoMemory => Err(Refused::NoMemory),
-        Err(_) => Err(Refused::Stopped),
-    }
-}
-
 fn close_all<T: Drop, R: Wait>(rt: &R, inboxes: &[Inbox<T>]) {
     for inbox in inboxes {
         inbox.close(rt);
@@ -442,14 +512,19 @@ fn alarm_all<T: Drop, R: Wait>(rt: &R, mailboxes: &[Mailbox<T>]) {
     }
 }
 
-fn new_inboxes<T: Drop>(
+fn new_inboxes<T: Drop, F: Fn(usize) -> Spot>(
     alloc: Global,
+    watches: &Watches,
     count: usize,
     edges: usize,
-) -> Result<Vec<Inbox<T>>, AllocError> {
+    domain: F,
+) -> Result<Vec<Inbox<T>>, AllocError>
+    requires { F.IsAlwaysCallable domain }
+{
     let mut all = Vec::with_capacity(alloc, count)?;
-    for _inbox in 0..count {
-        all.push(Inbox::new(alloc, edges)?)?;
+    for place in 0..count {
+        let watch = watches.of_domain(domain(place))?;
+        all.push(Inbox::new(alloc, edges, watch)?)?;
     }
     Ok(all)
 }

@@ -15,6 +15,7 @@ use std::marker::Brand;
 use std::sync::Wait;
 use std::thread::Threads;
 use system::system::System;
+use system::threads::usual_threads;
 use workers::gate::OpenGate;
 
 /// The most scripts of a race: the sixteenth session makes the closing fence and reads.
@@ -76,7 +77,15 @@ fn start_named<
     requires sessions { (opened.sessions ≡ J.sessions) × (sessions ≡ J.sessions) }
     requires few { sessions ≤ most_sessions }
 {
-    let mut system = System::<J>::start(rt, alloc, opened, plan, sessions, OpenGate)?;
+    let mut system = System::<J>::start(
+        rt,
+        alloc,
+        opened,
+        plan,
+        sessions,
+        usual_threads(&rt),
+        OpenGate,
+    )?;
     let played = play_buffered(rt, alloc, &mut system, play, out);
     system.stop(&rt);
     played

@@ -1,4 +1,4 @@
-//! The threads of a store: one for each shard of each view, each stage shard and each base shard.
+//! The threads of a store, which serve each shard of each view, each stage shard and each base shard.
 ghost use Rattle.std.specs.Prelude.{◌≡◌, IfErr};
 
 use book::law::Naming;
@@ -9,7 +9,7 @@ use std::alloc::Global;
 use std::sync::{Arc, Wait};
 use std::thread::{self, JoinHandle, Threads};
 
-/// The domains that run: the ways between them, and the thread of each.
+/// The domains that run: the ways between them, and the threads that serve them.
 #[derive(Drop)]
 pub struct Domains<J: Naming> {
     routes: Arc<Routes<J>>,
@@ -30,12 +30,13 @@ impl<J: Naming + Send + Sync + 'static> Domains<J> {
         &self.routes
     }
 
-    /// Starts the thread of a domain, and waits until the domain begins or has stopped. Refused
-    /// with `NoMemory`, also where a thread is refused or the domain stopped before its first turn.
+    /// Starts a thread that serves these domains, and waits until each has begun or has stopped.
+    /// Refused with `NoMemory`, also where a thread is refused or a domain stopped before its first
+    /// turn.
     pub fn run<R: Threads + Wait, F: FnOnce() + Send + Drop + 'static>(
         &mut self,
         rt: &R,
-        domain: Spot,
+        domains: &[Spot],
         work: F,
     ) -> Result<(), Refused>
         requires { F.pre work }
@@ -46,7 +47,10 @@ impl<J: Naming + Send + Sync + 'static> Domains<J> {
             return Err(Refused::NoMemory);
         };
         self.threads.push_reserved(thread);
-        if self.routes.has_begun(rt, domain) {
+        if domains
+            .iter()
+            .all(|domain| self.routes.has_begun(rt, *domain))
+        {
             Ok(())
         } else {
             Err(Refused::NoMemory)

@@ -4,3 +4,4 @@
 mod domains;
 mod starter;
 pub mod system;
+pub mod threads;

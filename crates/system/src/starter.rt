@@ -1,4 +1,4 @@
-//! Starts the domains of a plan, each in a thread of its own.
+//! Starts the domains of a plan in the threads that serve them.
 ghost use Rattle.std.specs.Prelude.{◌≡◌, ◌<◌, ◌≤◌, [], IfErr, IfOk, IfSome, Some, map, slice_get};
 ghost use Rattle.row.specs.Bags.{Each};
 ghost use Rattle.model.specs.Legal.{most_sessions};
@@ -18,20 +18,22 @@ use schedule::wire::Spot;
 use shown::reader::ShownReader;
 use shown::writer;
 use std::alloc::{AllocError, Global};
+use std::mem;
 use std::sync::{Arc, Wait};
 use std::thread::Threads;
-use workers::base_worker::base_work;
+use workers::crew::{work, work_with_view};
+use workers::duty::{BaseDuty, Duty, StageDuty};
 use workers::gate::Gate;
-use workers::stage_worker::stage_work;
-use workers::view_worker::view_work;
 
-/// The domains that were started so far, and what each is started with.
+/// The threads that were started so far, what each is started with, and what each that is not
+/// started is to serve beside a view shard.
 #[derive(Drop)]
 pub struct Starter<J: Naming, R: Drop, G: Drop> {
     domains: Domains<J>,
     rt: R,
     alloc: Global,
     gate: Arc<G>,
+    duties: Vec<Vec<Duty<J>>>,
 }
 
 impl<
@@ -39,18 +41,23 @@ impl<
     R: Threads + Wait + Copy + Drop + Send + 'static,
     G: Gate + Send + Sync + Drop + 'static,
 > Starter<J, R, G> {
-    /// None is started yet. Errors: memory only.
+    /// None is started yet, and none has anything to serve. Errors: memory only.
     pub fn new(
         rt: R,
         alloc: Global,
         gate: G,
         routes: Arc<Routes<J>>,
     ) -> Result<Starter<J, R, G>, AllocError> {
+        let mut duties = Vec::new(alloc);
+        for _thread in 0..routes.crews().threads() {
+            duties.push(Vec::new(alloc))?;
+        }
         Ok(Starter {
             domains: Domains::new(alloc, routes),
             rt,
             alloc,
             gate: Arc::new(alloc, gate)?,
+            duties,
         })
     }
 
@@ -77,15 +84,49 @@ impl<
         ensures readers { IfOk result (λ v. map reader_of v.items ≡ readers J.plan) }
         ensures only { IfErr result (λ e. e ≡ Refused.NoMemory) }
     {
-        let readers = self.start_views(part, sessions, copies)?;
+        self.assign_bases(sessions, logs)?;
         for stage in 0..self.domains.routes().plan().stages() {
-            self.start_stage(part, stage)?;
+            self.assign(Duty::Stage(StageDuty::new(stage)))?;
         }
-        self.start_bases(sessions, logs)?;
+        let readers = self.start_views(part, sessions, copies)?;
+        self.start_others(part)?;
         Ok(readers)
     }
 
-    // Starts each shard of each view.
+    // Puts a domain behind the others that its thread is to serve. Errors: memory only.
+    fn assign(&mut self, duty: Duty<J>) -> Result<(), AllocError> {
+        let thread = self.domains.routes().crews().thread_of(duty.domain());
+        match self.duties.get_mut(thread) {
+            Some(duties) => Ok(duties.push(duty)?),
+            None => Err(AllocError),
+        }
+    }
+
+    // Assigns each base shard, which gets its log.
+    fn assign_bases(&mut self, sessions: usize, mut logs: Vec<Log<J>>) -> Result<(), AllocError>
+        requires empty { Each (λ (f : FrontView). f.len ≡ 0) logs.items }
+        requires sessions { sessions ≡ J.sessions }
+    {
+        while let Some(log) = logs.pop() {
+            self.assign(Duty::Base(BaseDuty::new(log, sessions)))?;
+        }
+        Ok(())
+    }
+
+    // What a thread is to serve beside a view shard, and where each is; then it has nothing more.
+    fn duties_of(&mut self, thread: usize) -> Result<(Vec<Duty<J>>, Vec<Spot>), AllocError> {
+        let mut domains = Vec::new(self.alloc);
+        let Some(duties) = self.duties.get_mut(thread) else {
+            return Ok((Vec::new(self.alloc), domains));
+        };
+        for duty in duties.iter() {
+            domains.push(duty.domain())?;
+        }
+        let duties = mem::replace(duties, Vec::new(self.alloc));
+        Ok((duties, domains))
+    }
+
+    // Starts the thread of each shard of each view.
     fn start_views(
         &mut self,
         part: &Part<J>,
@@ -106,7 +147,8 @@ impl<
         Ok(readers)
     }
 
-    // Opens the shown copy of a shard of a view and starts the shard: a reader of what it shows.
+    // Opens the shown copy of a shard of a view and starts the thread of the shard: a reader of
+    // what it shows.
     fn start_view(
         &mut self,
         part: &Part<J>,
@@ -120,61 +162,49 @@ impl<
         ensures only { IfErr result (λ e. e ≡ Refused.NoMemory) }
     {
         let (rt, alloc) = (self.rt, self.alloc);
+        let thread = self.domains.routes().crews().thread_of(Spot::View(reader));
+        let (duties, mut domains) = self.duties_of(thread)?;
+        domains.push(Spot::View(reader))?;
         let plan = self.domains.routes().plan();
         let mut writer = writer::open(rt, alloc, plan, copy, part, sessions + 1)?;
         let first = writer.reader()?;
         let (routes, gate) = self.shared()?;
         let part = part.again();
-        let work = move ||
+        let run = move ||
             requires first { IfSome (slice_get (readers J.plan) reader) (λ r. shown writer
                 ≡ first_of J.plan r.view r.shard) }
             requires idle { pending writer ≡ [] }
-        { view_work(&rt, alloc, &routes, &part, reader, writer, &*gate) };
-        self.domains.run(&rt, Spot::View(reader), work)?;
+        { work_with_view(&rt, alloc, &routes, &part, reader, writer, duties, &*gate) };
+        self.domains.run(&rt, &domains, run)?;
         Ok(first)
     }
 
-    // Starts a stage shard.
-    fn start_stage(&mut self, part: &Part<J>, stage: usize) -> Result<(), Refused>
-        requires stage { stage < J.plan.stages }
+    // Starts each thread that serves no view shard.
+    fn start_others(&mut self, part: &Part<J>) -> Result<(), Refused>
         ensures only { IfErr result (λ e. e ≡ Refused.NoMemory) }
     {
-        let (rt, alloc) = (self.rt, self.alloc);
-        let (routes, gate) = self.shared()?;
-        let part = part.again();
-        let work = move ||
-            requires stage { stage < J.plan.stages }
-        { stage_work(&rt, alloc, &routes, &part, stage, &*gate) };
-        self.domains.run(&rt, Spot::Stage(stage), work)
-    }
-
-    // Starts each base shard, which gets its log.
-    fn start_bases(&mut self, sessions: usize, mut logs: Vec<Log<J>>) -> Result<(), Refused>
-        requires empty { Each (λ (f : FrontView). f.len ≡ 0) logs.items }
-        requires sessions { sessions ≡ J.sessions }
-        ensures only { IfErr result (λ e. e ≡ Refused.NoMemory) }
-    {
-        while let Some(log) = logs.pop() {
-            self.start_base(sessions, log)?;
+        let crews = self.domains.routes().crews();
+        for thread in 0..crews.threads() {
+            if !crews.has_view(thread) {
+                self.start_thread(part, thread)?;
+            }
         }
         Ok(())
     }
 
-    fn start_base(&mut self, sessions: usize, log: Log<J>) -> Result<(), Refused>
-        requires empty { log.len ≡ 0 }
-        requires sessions { sessions ≡ J.sessions }
+    // Starts a thread with what is assigned to it.
+    fn start_thread(&mut self, part: &Part<J>, thread: usize) -> Result<(), Refused>
         ensures only { IfErr result (λ e. e ≡ Refused.NoMemory) }
     {
         let (rt, alloc) = (self.rt, self.alloc);
-        let base = log.base();
+        let (duties, domains) = self.duties_of(thread)?;
         let (routes, gate) = self.shared()?;
-        let work = move ||
-            requires empty { log.len ≡ 0 }
-            requires sessions { sessions ≡ J.sessions }
-        { base_work(&rt, alloc, &routes, log, sessions, &*gate) };
-        self.domains.run(&rt, Spot::Base(base), work)
+        let part = part.again();
+        let run = move || work(&rt, alloc, &routes, &part, thread, duties, &*gate);
+        self.domains.run(&rt, &domains, run)
     }
-    // The ways and the gate, for one domain more.
+
+    // The ways and the gate, for one thread more.
     fn shared(&self) -> Result<(Arc<Routes<J>>, Arc<G>), AllocError> {
         Ok((
             Arc::try_clone(self.domains.routes())?,

@@ -59,10 +59,12 @@ impl<J: Naming> Model for System<J> {
 }
 
 impl<J: Naming + Send + Sync + 'static> System<J> {
-    /// Starts a thread for each domain of the plan that the book was opened on: each shard of each
-    /// view, each stage shard and each base shard. The gate is called around each turn of each.
-    /// Refused with `NoMemory`, also where a thread is refused; the threads started by then have
-    /// ended. Cost: that of an empty state of each domain.
+    /// Starts the domains of the plan that the book was opened on: each shard of each view, each
+    /// stage shard and each base shard. This many threads serve them, as `Crews` shares them out:
+    /// at least one for each view shard, and at most one for each domain. The gate is called around each turn of each
+    /// domain; one that waits there holds all domains of its thread. Refused with `NoMemory`, also
+    /// where a thread is refused; the threads started by then have ended. Cost: that of an empty
+    /// state of each domain.
     pub fn start<
         R: Threads + Wait + Copy + Drop + Send + 'static,
         G: Gate + Send + Sync + Drop + 'static,
@@ -72,6 +74,7 @@ impl<J: Naming + Send + Sync + 'static> System<J> {
         opened: Opened,
         plan: Plan,
         sessions: usize,
+        threads: usize,
         gate: G,
     ) -> Result<System<J>, Refused>
         requires book { opened.book ≡ J.book }
@@ -88,7 +91,7 @@ impl<J: Naming + Send + Sync + 'static> System<J> {
             words,
             copies,
         } = opened.named::<J>(alloc, &plan)?;
-        let routes = Arc::new(alloc, Routes::new(alloc, plan, book, sessions)?)?;
+        let routes = Arc::new(alloc, Routes::new(alloc, plan, book, sessions, threads)?)?;
         let mut starter = Starter::new(rt, alloc, gate, routes)?;
         let started = starter.start(&start, sessions, copies, logs);
         let domains = starter.into_domains();

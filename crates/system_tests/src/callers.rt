@@ -14,7 +14,8 @@ use std::thread::Threads;
 
 #[test]
 fn a_session_of_a_stopped_system(rt: HostRuntime) -> Result<(), Fail> {
-    run_notes(rt, rt.alloc(), 1, Scene::Stopped)
+    run_notes(rt, rt.alloc(), 1, usize::MAX, Scene::Stopped)?;
+    run_notes(rt, rt.alloc(), 1, 1, Scene::Stopped)
 }
 
 const BEFORE_STOP: &[Step] = &[
@@ -51,7 +52,8 @@ fn used<J: Naming + Send + Sync + 'static, R: Threads + Wait + Copy + Drop + Sen
 
 #[test]
 fn an_answer_that_is_kept(rt: HostRuntime) -> Result<(), Fail> {
-    run_notes(rt, rt.alloc(), 1, Scene::Kept)
+    run_notes(rt, rt.alloc(), 1, 1, Scene::Kept)?;
+    run_notes(rt, rt.alloc(), 1, 2, Scene::Kept)
 }
 
 const AFTER_LOOK: &[Step] = &[
@@ -82,7 +84,8 @@ pub fn calls_of_kept<
 
 #[test]
 fn sessions_that_meet(rt: HostRuntime) -> Result<(), Fail> {
-    run_notes(rt, rt.alloc(), 2, Scene::Meeting)
+    run_notes(rt, rt.alloc(), 2, 2, Scene::Meeting)?;
+    run_notes(rt, rt.alloc(), 2, usize::MAX, Scene::Meeting)
 }
 
 const OF_FIRST: &[Step] = &[(Call::Insert(0), Ok(Told::Index(0)))];
@@ -121,7 +124,8 @@ fn meet_in_turn<J: Naming, R: Wait>(
 
 #[test]
 fn four_sessions_at_once(rt: HostRuntime) -> Result<(), Fail> {
-    run_notes(rt, rt.alloc(), 4, Scene::FourSessions)
+    run_notes(rt, rt.alloc(), 4, usize::MAX, Scene::FourSessions)?;
+    run_notes(rt, rt.alloc(), 4, 1, Scene::FourSessions)
 }
 
 /// How many rows of its own each of four sessions inserts, and how many that all of them do.

@@ -9,7 +9,7 @@ use std::sync::atomic::{AtomicBool, AtomicUsize, Ordering};
 use std::sync::{Arc, Wait};
 use std::test::Fail;
 use std::thread::{self, Threads};
-use workers::gate::Gate;
+use workers::gate::{Gate, OpenGate};
 
 /// Notes in two base shards and two stage shards.
 const NOTES: &str = r#"
@@ -156,6 +156,24 @@ fn all_domains_at_once(rt: HostRuntime) -> Result<(), Fail> {
     Ok(())
 }
 
+/// How few threads serve eight domains.
+const FEW: &[usize] = &[2, 3, 5];
+
+#[test]
+fn domains_that_share_threads(rt: HostRuntime) -> Result<(), Fail> {
+    for threads in FEW {
+        let setup = Setup {
+            plan: from_toml(rt.alloc(), VOTES)?,
+            sessions: 1,
+            threads: *threads,
+            gate: OpenGate,
+            scene: Scene::Lines(LINES),
+        };
+        run(rt, rt.alloc(), setup)?;
+    }
+    Ok(())
+}
+
 // Whether the domains of a recipe meet while a session inserts the rows.
 fn do_meet<R: Threads + Wait + Copy + Drop + Send + 'static>(
     rt: R,
@@ -172,6 +190,7 @@ fn do_meet<R: Threads + Wait + Copy + Drop + Send + 'static>(
     let setup = Setup {
         plan: from_toml(alloc, recipe)?,
         sessions: 1,
+        threads: usize::MAX,
         gate,
         scene: Scene::Lines(lines),
     };

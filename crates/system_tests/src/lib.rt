@@ -6,6 +6,8 @@ mod asks;
 #[cfg(test)]
 mod callers;
 #[cfg(test)]
+mod crews;
+#[cfg(test)]
 mod gates;
 #[cfg(test)]
 mod runs;

@@ -31,15 +31,17 @@ pub enum Scene {
 pub struct Setup<G> {
     pub plan: Plan,
     pub sessions: usize,
+    pub threads: usize,
     pub gate: G,
     pub scene: Scene,
 }
 
-// Plays the scene with the built-in plan.
+// Plays the scene with the built-in plan, whose domains this many threads serve.
 pub fn run_notes<R: Threads + Wait + Copy + Drop + Send + 'static>(
     rt: R,
     alloc: Global,
     sessions: usize,
+    threads: usize,
     scene: Scene,
 ) -> Result<(), Fail>
     requires few { sessions ≤ most_sessions }
@@ -47,6 +49,7 @@ pub fn run_notes<R: Threads + Wait + Copy + Drop + Send + 'static>(
     let setup = Setup {
         plan: Plan::built_in(alloc)?,
         sessions,
+        threads,
         gate: OpenGate,
         scene,
     };
@@ -77,10 +80,11 @@ fn run_named<
     let Setup {
         plan,
         sessions,
+        threads,
         gate,
         scene,
     } = setup;
-    match System::<J>::start(rt, alloc, opened, plan, sessions, gate) {
+    match System::<J>::start(rt, alloc, opened, plan, sessions, threads, gate) {
         Ok(system) => play(Running { rt, alloc, system }, scene),
         Err(refused) => Err(fail(refused)),
     }

@@ -1,8 +1,11 @@
-//! The threads of a store: the loop of each kind of domain.
+//! The threads of a store: the loop of a thread, and the turns of each kind of domain that it
+//! serves.
 #![tactic(auto)]
 
-pub mod base_worker;
+mod base_seat;
+pub mod crew;
+pub mod duty;
 pub mod gate;
-pub mod stage_worker;
-pub mod view_worker;
+mod stage_seat;
+mod view_seat;
 mod worker;

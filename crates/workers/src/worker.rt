@@ -1,4 +1,4 @@
-//! What the functions of a domain's thread share.
+//! What the functions of a domain's turns share.
 ghost use Rattle.std.specs.Prelude.{◌≡◌};
 
 use book::law::Naming;
@@ -6,7 +6,7 @@ use routes::routes::Routes;
 use row::refused::Refused;
 use std::alloc::Global;
 
-/// The thread of a domain: what it waits with, its allocator, the ways between the threads, and the
+/// What serves a domain: what it waits with, its allocator, the ways between the domains, and the
 /// domain's place among those of its kind.
 #[derive(Drop)]
 pub(crate) struct Worker<'r, J: Naming, R> {
@@ -17,7 +17,7 @@ pub(crate) struct Worker<'r, J: Naming, R> {
 }
 
 impl<'r, J: Naming, R> Worker<'r, J, R> {
-    /// The thread of the domain at this place.
+    /// What serves the domain at this place.
     pub(crate) fn new(rt: &'r R, alloc: Global, routes: &'r Routes<J>, place: usize) -> Self
         ensures { result.place ≡ place }
     {

@@ -1,11 +1,12 @@
 //! An inbox in one thread, and what is done with one in other tests.
 ghost use Rattle.std.specs.Prelude.{◌≡◌, ◌<◌, length, IfOk};
 
+use crossbeam_utils::sync::EventCount;
 use links::inbox::{Inbox, Taking};
 use links::queues::Queues;
 use row::refused::Refused;
 use std::alloc::{AllocError, Global};
-use std::sync::Wait;
+use std::sync::{Arc, Wait};
 use std::test::Fail;
 
 /// An inbox of this many edges, and queues for its taker.
@@ -13,7 +14,19 @@ pub fn pair(alloc: Global, edges: usize) -> Result<(Inbox<u64>, Queues<u64>), Al
     ensures edges { IfOk result (λ p. p.0 ≡ edges) }
     ensures count { IfOk result (λ p. length p.1 ≡ edges) }
 {
-    let inbox = Inbox::new(alloc, edges)?;
+    watched_pair(alloc, edges, Arc::new(alloc, EventCount::new())?)
+}
+
+/// The same, where the event count tells of what comes.
+pub fn watched_pair(
+    alloc: Global,
+    edges: usize,
+    watch: Arc<EventCount>,
+) -> Result<(Inbox<u64>, Queues<u64>), AllocError>
+    ensures edges { IfOk result (λ p. p.0 ≡ edges) }
+    ensures count { IfOk result (λ p. length p.1 ≡ edges) }
+{
+    let inbox = Inbox::new(alloc, edges, watch)?;
     let queues = Queues::new(alloc, edges)?;
     Ok((inbox, queues))
 }
@@ -41,12 +54,13 @@ pub fn digits(queues: &mut Queues<u64>, edge: usize) -> u64
 fn closes<R: Wait>(rt: &R, inbox: &Inbox<u64>, queues: &mut Queues<u64>) -> Result<bool, Refused>
     requires { length queues.old ≡ inbox.now }
 {
+    let empty = inbox.take_all(rt, queues) == Taking::Empty && !inbox.is_ready();
     put(rt, inbox, 0, 5)?;
     inbox.close(rt);
     let refused = is_refused(rt, inbox, 0, Refused::Stopped);
     let taken = inbox.take_all(rt, queues) == Taking::Taken && digits(queues, 0) == 5;
     let closed = inbox.take_all(rt, queues) == Taking::Closed && queues.is_empty();
-    Ok(refused && taken && closed && inbox.take_all(rt, queues) == Taking::Closed)
+    Ok(empty && refused && taken && closed && inbox.take_all(rt, queues) == Taking::Closed)
 }
 
 // Whether a put is refused so, and the message comes back.
@@ -93,6 +107,7 @@ const CROWD: u64 = 5000;
 fn put_crowd<R: Wait>(rt: &R, inbox: &Inbox<u64>) -> Result<(), Refused> {
     for message in 0..CROWD {
         put(rt, inbox, 0, message)?;
+        inbox.give_way();
     }
     Ok(())
 }
@@ -102,7 +117,8 @@ fn put_crowd<R: Wait>(rt: &R, inbox: &Inbox<u64>) -> Result<(), Refused> {
 fn a_crowd_is_let_in(rt: HostRuntime) -> Result<(), Fail> {
     let (inbox, mut queues) = pair(rt.alloc(), 1)?;
     put_crowd(&rt, &inbox)?;
+    assert!(rt; inbox.is_crowded());
     let taken = inbox.take_all(&rt, &mut queues) == Taking::Taken;
-    assert!(rt; taken && queues.len(0) == 5000);
+    assert!(rt; taken && queues.len(0) == 5000 && !inbox.is_crowded());
     Ok(())
 }
