@@ -1,5 +1,5 @@
 -- A step that only adds to what is shown, and shows what is true, keeps the rule.
-use Rattle.std.proofs.Common.{◌≡◌, ℕ, ◌≢◌, List, [], set, refl, subst, ⊎_elim, Option, Some, None, IfSome, ◌∙◌}
+use Rattle.std.proofs.Common.{◌≡◌, ℕ, ◌≢◌, List, set, refl, subst, ⊎_elim, Option, Some, None, IfSome, ◌∙◌}
 use mathlib.Core.Option.{some}
 use lib.ListN.{get_elem?}
 use Rattle.left_right.specs.Register.{Admits, TurnsAt, Forks, Merges}

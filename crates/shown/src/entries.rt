@@ -4,7 +4,7 @@ ghost use Rattle.std.specs.Option.{option_copied};
 ghost use Rattle.row.specs.Cells.{datum_of};
 ghost use Rattle.shown.specs.Snapshots.{shown_at, turned, without};
 
-use crate::rows::SharedRows;
+use crate::rows::KeyRows;
 use lru::LruCache;
 use row::record::Record;
 use row::value::Value;
@@ -14,7 +14,7 @@ use std::marker::Model;
 /// Keys with their rows, each key once.
 #[derive(Drop)]
 pub struct Entries {
-    map: LruCache<Value, SharedRows>,
+    map: LruCache<Value, KeyRows>,
 }
 
 impl Model for Entries {
@@ -39,7 +39,7 @@ impl Entries {
     }
 
     /// The rows of a key, where it is there. Takes no memory. Constant time.
-    pub fn get(&self, key: &Value) -> Option<&SharedRows>
+    pub fn get(&self, key: &Value) -> Option<&KeyRows>
         ensures { option_copied result ≡ shown_at self.now (datum_of key.now) }
     {
         self.map.peek(key)
@@ -47,7 +47,7 @@ impl Entries {
 
     /// Puts in a key with its rows, in the place of what was there of it. Errors: memory only; then
     /// all is as it was. Constant time.
-    pub fn put(&mut self, key: Value, rows: SharedRows) -> Result<(), AllocError>
+    pub fn put(&mut self, key: Value, rows: KeyRows) -> Result<(), AllocError>
         ensures put { OnOk result (self.new
             ≡ (datum_of key, rows) ∷ without (datum_of key) self.old) }
         ensures err { OnErr result (self.new ≡ self.old) }

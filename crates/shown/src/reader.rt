@@ -23,6 +23,7 @@ pub struct ShownReader<J: Naming> {
     reader: Reader<Shown<J>, Sight, Published>,
     view: usize,
     shard: usize,
+    stripe: usize,
 }
 
 impl<J: Naming> Model for ShownReader<J> {
@@ -52,6 +53,7 @@ impl<J: Naming> ShownReader<J> {
         reader: Reader<Shown<J>, Sight, Published>,
         view: usize,
         shard: usize,
+        stripe: usize,
     ) -> Result<ShownReader<J>, AllocError>
         ensures view { IfOk result (λ r. r.view ≡ view) }
         ensures shard { IfOk result (λ r. r.shard ≡ shard) }
@@ -69,24 +71,26 @@ impl<J: Naming> ShownReader<J> {
             reader,
             view,
             shard,
+            stripe,
         })
     }
 
-    /// One more reader of the same copy, which has looked once. Refused where the writer is gone,
-    /// or each place for a reader was found in use.
-    pub fn another(&self) -> Result<ShownReader<J>, AllocError>
+    /// One more reader of the same copy, which has looked once. Those of different stripes, of which
+    /// there are four, take copies of rows without waiting for each other. Refused where the writer
+    /// is gone, or each place for a reader was found in use.
+    pub fn another(&self, stripe: usize) -> Result<ShownReader<J>, AllocError>
         ensures view { IfOk result (λ r. r.view ≡ self.now.view) }
         ensures shard { IfOk result (λ r. r.shard ≡ self.now.shard) }
     {
         let reader = self.reader.factory().reader()?;
-        ShownReader::over(reader, self.view, self.shard)
+        ShownReader::over(reader, self.view, self.shard, stripe)
     }
 
     /// Looks a key up in what is shown, which is true and no less than what it has seen: a hit has
     /// the rows and the cut of one look, a miss says that the key was not shown. It waits for
     /// nobody. Errors: `NoMemory`, also where the writer is gone; it may then have seen more. Cost:
-    /// one look-up by hash, a step on the count of the key's rows, which other readers touch too,
-    /// and a copy of the cut.
+    /// one look-up by hash, a step on a count of the key's rows, which other readers of its stripe
+    /// touch too, and a copy of the cut.
     pub fn look(&mut self, alloc: Global, key: &Value) -> Result<Look<J>, Refused>
         ensures later { IsLater self.old self.new }
         ensures truth { IfOk result (λ _. IsTrue J.plan self.new) }
@@ -96,9 +100,9 @@ impl<J: Naming> ShownReader<J> {
         ensures miss { IfOk result (OnMiss (shown_at self.new.rows (datum_of key.now) ≡ None)) }
         ensures only { IfErr result (λ e. e ≡ Refused.NoMemory) }
     {
-        let (view, shard) = (self.view, self.shard);
+        let (view, shard, stripe) = (self.view, self.shard, self.stripe);
         replace_with(&mut self.reader, (alloc, key), |reader, (alloc, key)| {
-            look_by(reader, alloc, key, view, shard)
+            look_by(reader, alloc, key, view, shard, stripe)
         })
     }
 
@@ -138,6 +142,7 @@ fn look_by<J: Naming>(
     key: &Value,
     view: usize,
     shard: usize,
+    stripe: usize,
 ) -> (Reader<Shown<J>, Sight, Published>, Result<Look<J>, Refused>)
     requires of { IsOf view shard (sight_of reader.place) }
     ensures looked { HasLooked view shard (sight_of reader.place) (sight_of result.0.place) }
@@ -153,7 +158,7 @@ fn look_by<J: Naming>(
     match reader.enter_as::<Looks>() {
         Err(reader) => (reader, Err(Refused::NoMemory)),
         Ok(reading) => {
-            let found = found(alloc, reading.get(), key);
+            let found = found(alloc, reading.get(), key, stripe);
             (reading.leave(), found)
         }
     }
@@ -203,7 +208,12 @@ fn asked_by<J: Naming>(
 }
 
 // The key's entry and a copy of the cut.
-fn found<J: Naming>(alloc: Global, shown: &Shown<J>, key: &Value) -> Result<Look<J>, Refused>
+fn found<J: Naming>(
+    alloc: Global,
+    shown: &Shown<J>,
+    key: &Value,
+    stripe: usize,
+) -> Result<Look<J>, Refused>
     ensures hit { IfOk result (OnHit (λ rows cut.
         (shown_at shown.now.rows (datum_of key.now) ≡ Some rows)
         × (cut.lengths ≡ shown.now.lengths) × (fronts J.plan cut ≡ shown.now.cut))) }
@@ -213,5 +223,6 @@ fn found<J: Naming>(alloc: Global, shown: &Shown<J>, key: &Value) -> Result<Look
     let Some(rows) = shown.entry(key) else {
         return Ok(Look::Miss);
     };
-    Ok(Look::Hit(rows.try_clone(alloc)?, shown.cut().try_clone(alloc)?))
+    let rows = rows.stripe(stripe).try_clone(alloc)?;
+    Ok(Look::Hit(rows, shown.cut().try_clone(alloc)?))
 }

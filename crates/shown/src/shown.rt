@@ -8,7 +8,7 @@ ghost use Rattle.shown.specs.Snapshots.{first_of, shown_at, with_change};
 
 use crate::delta::{Delta, Moved};
 use crate::entries::Entries;
-use crate::rows::SharedRows;
+use crate::rows::KeyRows;
 use crate::rule::Shot;
 use book::cut::Cut;
 use book::law::Naming;
@@ -29,6 +29,7 @@ pub struct Shown<J: Naming> {
     rows: Entries,
     cut: Cut<J>,
     asked: u64,
+    is_striped: bool,
 }
 
 impl<J: Naming> Model for Shown<J> {
@@ -48,13 +49,15 @@ impl<J: Naming> Model for Shown<J> {
 }
 
 impl<J: Naming> Shown<J> {
-    /// No key, over no entries. Errors: memory only.
+    /// No key, over no entries. Striped, it has the rows of each key for readers of four stripes.
+    /// Errors: memory only.
     pub fn new(
         alloc: Global,
         plan: &Plan,
         view: usize,
         shard: usize,
         part: &Part<J>,
+        is_striped: bool,
     ) -> Result<Shown<J>, AllocError>
         requires plan { plan.now ≡ J.plan }
         ensures { IfOk result (λ s. s ≡ first_of J.plan view shard) }
@@ -66,11 +69,12 @@ impl<J: Naming> Shown<J> {
             rows: Entries::new(alloc)?,
             cut: Cut::zeros(alloc, plan, part)?,
             asked: 0,
+            is_striped,
         })
     }
 
     /// The rows of a key, where it is shown. Takes no memory. Constant time.
-    pub fn entry(&self, key: &Value) -> Option<&SharedRows>
+    pub fn entry(&self, key: &Value) -> Option<&KeyRows>
         ensures { option_copied result ≡ shown_at self.now.rows (datum_of key.now) }
     {
         self.rows.get(key)
@@ -100,7 +104,7 @@ impl<J: Naming> Shown<J> {
     {
         match change {
             KeyChange::Fills { key, rows } => {
-                let rows = SharedRows::new(self.alloc, rows.try_clone(self.alloc)?)?;
+                let rows = KeyRows::new(self.alloc, rows.try_clone(self.alloc)?, self.is_striped)?;
                 let key = key.try_clone(self.alloc)?;
                 self.rows.put(key, rows)
             }

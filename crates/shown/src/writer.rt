@@ -40,7 +40,8 @@ impl<T: Absorb<O> + Drop, O: Drop, V, P: Protocol<T, V>, R: Wait + Drop> Drop
 pub type ShownWriter<J, R> = Board<Shown<J>, Delta<J>, Sight, Published, R>;
 
 /// The shown copy of a shard of a view, by the one right to it: it shows no key, over no entries,
-/// and has places for this many readers. Errors: memory only.
+/// and has places for this many readers, one of which may be the first that others are made from.
+/// For more than two it has the rows of each key for readers of four stripes. Errors: memory only.
 pub fn open<J: Naming, R: Wait + Drop>(
     rt: R,
     alloc: Global,
@@ -55,8 +56,9 @@ pub fn open<J: Naming, R: Wait + Drop>(
     ensures pending { IfOk result (λ w. pending w ≡ []) }
 {
     let (view, shard) = copy.reader();
-    let first = Shown::new(alloc, plan, view, shard, part)?;
-    let second = Shown::new(alloc, plan, view, shard, part)?;
+    let is_striped = readers > 2;
+    let first = Shown::new(alloc, plan, view, shard, part, is_striped)?;
+    let second = Shown::new(alloc, plan, view, shard, part, is_striped)?;
     let writer = Writer::new(alloc, first, second, readers)?;
     Ok(Board { writer, rt })
 }
@@ -74,7 +76,7 @@ impl<J: Naming, R: Wait + Drop> ShownWriter<J, R> {
         let (view, shard) = (shown.view, shown.shard);
         let mut reader = self.writer.factory().reader()?;
         reader.learn::<Tells>(self.writer.tell::<Tells>());
-        ShownReader::over(reader, view, shard)
+        ShownReader::over(reader, view, shard, 0)
     }
 
     /// Shows a change: what a view's shard tells of one message. It waits for readers that still
