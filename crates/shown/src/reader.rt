@@ -75,9 +75,9 @@ impl<J: Naming> ShownReader<J> {
         })
     }
 
-    /// One more reader of the same copy, which has looked once. Those of different stripes, of which
-    /// there are four, take copies of rows without waiting for each other. Refused where the writer
-    /// is gone, or each place for a reader was found in use.
+    /// One more reader of the same copy, of a stripe, which has looked once. There are four stripes;
+    /// a greater number is taken modulo four. Refused where the writer is gone, or each place for a
+    /// reader was found in use.
     pub fn another(&self, stripe: usize) -> Result<ShownReader<J>, AllocError>
         ensures view { IfOk result (λ r. r.view ≡ self.now.view) }
         ensures shard { IfOk result (λ r. r.shard ≡ self.now.shard) }
@@ -89,8 +89,9 @@ impl<J: Naming> ShownReader<J> {
     /// Looks a key up in what is shown, which is true and no less than what it has seen: a hit has
     /// the rows and the cut of one look, a miss says that the key was not shown. It waits for
     /// nobody. Errors: `NoMemory`, also where the writer is gone; it may then have seen more. Cost:
-    /// one look-up by hash, a step on a count of the key's rows, which other readers of its stripe
-    /// touch too, and a copy of the cut.
+    /// one look-up by hash, a step on a count of the key's rows, and a copy of the cut. Where the
+    /// rows have changed since the key was filled all readers step on that count, else those of its
+    /// stripe.
     pub fn look(&mut self, alloc: Global, key: &Value) -> Result<Look<J>, Refused>
         ensures later { IsLater self.old self.new }
         ensures truth { IfOk result (λ _. IsTrue J.plan self.new) }

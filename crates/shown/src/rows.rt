@@ -10,12 +10,14 @@ use std::alloc::{AllocError, Global};
 use std::marker::Model;
 use std::sync::Arc;
 
-/// How many words stand behind a stripe's count and its bag, so that no two counts share a line of
-/// 64 bytes.
+/// How many stripes there are.
+const STRIPES: usize = 4;
+
+/// How many words stand behind the count and the bag of a stripe: with those they are 56 bytes, and
+/// 64 with what an allocator keeps of a piece of memory, so that no two counts share a cache line.
 const APART: usize = 5;
 
-/// A bag that other stripes have too; it lies beside a count of its own, and is as long as a cache
-/// line with that.
+/// A bag that other stripes may have too, with a count of its own beside it.
 struct Stripe {
     bag: Arc<Bag>,
     apart: [u64; APART],
@@ -75,8 +77,8 @@ impl SharedRows {
         }
     }
 
-    // The rows of this bag, which nobody shares yet. Errors: memory only.
-    fn new(alloc: Global, bag: Bag) -> Result<SharedRows, AllocError>
+    /// The rows of this bag, which nobody shares yet. Errors: memory only.
+    pub fn new(alloc: Global, bag: Bag) -> Result<SharedRows, AllocError>
         ensures { IfOk result (λ r. r ≡ bag) }
     {
         SharedRows::over(alloc, shared(alloc, bag)?)
@@ -126,7 +128,7 @@ impl SharedRows {
     /// Applies the records as one change, as `Bag::apply` does; copies that share the rows keep
     /// what they have. Errors: memory only; then the rows are as they were. Cost: that of
     /// `Bag::apply`, and where a copy shares the rows, that of a copy of the bag.
-    fn apply(&mut self, alloc: Global, records: &[Record]) -> Result<(), AllocError>
+    pub fn apply(&mut self, alloc: Global, records: &[Record]) -> Result<(), AllocError>
         ensures applied { OnOk result (self.new ≡ with_records self.old records.now) }
         ensures err { OnErr result (self.new ≡ self.old) }
     {
@@ -142,15 +144,21 @@ impl SharedRows {
     }
 }
 
-/// The rows of a shown key. Striped, they have four counts until they change, so that readers of
-/// four stripes do not wait for each other at one: a copy that a reader takes is counted by its
-/// stripe. A change leaves one count, with which it changes the rows where they are. (A striped
-/// count, as that of Java's `LongAdder`.)
+/// The rows of a key for readers of the other stripes than the first.
+#[derive(Drop)]
+struct Others {
+    second: SharedRows,
+    third: SharedRows,
+    fourth: SharedRows,
+}
+
+/// The rows of a shown key. Striped, they have a count for each of four stripes until they change:
+/// a copy that a reader takes is counted by its stripe, so readers of two stripes do not wait for
+/// each other at a count. (As reference counts of a kernel that each processor has for itself.) A
+/// change leaves one count, with which the rows are changed where they are.
 pub struct KeyRows {
     first: SharedRows,
-    second: Option<SharedRows>,
-    third: Option<SharedRows>,
-    fourth: Option<SharedRows>,
+    others: Option<Others>,
 }
 
 // What holds one drops it by this call, and need not know its parts.
@@ -158,9 +166,7 @@ impl Drop for KeyRows {
     fn drop(self) {
         let KeyRows {
             first: _,
-            second: _,
-            third: _,
-            fourth: _,
+            others: _,
         } = self;
     }
 }
@@ -173,8 +179,8 @@ impl Model for KeyRows {
 
     ghost view = { λ r. r.first };
 
-    ghost invariant = { λ r. IfSome r.second (λ s. s ≡ r.first)
-        × IfSome r.third (λ s. s ≡ r.first) × IfSome r.fourth (λ s. s ≡ r.first) };
+    ghost invariant = { λ r. IfSome r.others (λ o. (o.second ≡ r.first) × (o.third ≡ r.first)
+        × (o.fourth ≡ r.first)) };
 }
 
 impl KeyRows {
@@ -183,19 +189,18 @@ impl KeyRows {
         ensures { IfOk result (λ r. r ≡ bag) }
     {
         let bag = shared(alloc, bag)?;
-        if !is_striped {
-            return Ok(KeyRows {
-                first: SharedRows::over(alloc, bag)?,
-                second: None,
-                third: None,
-                fourth: None,
-            });
-        }
+        let others = if is_striped {
+            Some(Others {
+                second: SharedRows::over(alloc, Arc::try_clone(&bag)?)?,
+                third: SharedRows::over(alloc, Arc::try_clone(&bag)?)?,
+                fourth: SharedRows::over(alloc, Arc::try_clone(&bag)?)?,
+            })
+        } else {
+            None
+        };
         Ok(KeyRows {
-            second: Some(SharedRows::over(alloc, Arc::try_clone(&bag)?)?),
-            third: Some(SharedRows::over(alloc, Arc::try_clone(&bag)?)?),
-            fourth: Some(SharedRows::over(alloc, Arc::try_clone(&bag)?)?),
             first: SharedRows::over(alloc, bag)?,
+            others,
         })
     }
 
@@ -203,28 +208,23 @@ impl KeyRows {
     pub fn stripe(&self, stripe: usize) -> &SharedRows
         ensures { result.now ≡ self.now }
     {
-        let own = match stripe % 4 {
-            1 => self.second.as_ref(),
-            2 => self.third.as_ref(),
-            3 => self.fourth.as_ref(),
-            _ => None,
-        };
-        match own {
-            Some(rows) => rows,
-            None => &self.first,
+        match (&self.others, stripe % STRIPES) {
+            (Some(others), 1) => &others.second,
+            (Some(others), 2) => &others.third,
+            (Some(others), 3) => &others.fourth,
+            _ => &self.first,
         }
     }
 
-    /// Applies the records as one change, as `Bag::apply` does; who has a copy keeps what it has,
-    /// and there is one count from then on. Errors: memory only; then the rows are as they were.
-    /// Cost: that of `Bag::apply`, and where a copy shares the rows, that of a copy of the bag.
+    /// Applies the records as one change, as `Bag::apply` does; who has a copy keeps what it has.
+    /// From then on, also after an error, there is one count. Errors: memory only; then the rows
+    /// are as they were. Cost: that of `Bag::apply`, and where a copy shares the rows, that of a
+    /// copy of the bag.
     pub fn apply(&mut self, alloc: Global, records: &[Record]) -> Result<(), AllocError>
         ensures applied { OnOk result (self.new ≡ with_records self.old records.now) }
         ensures err { OnErr result (self.new ≡ self.old) }
     {
-        self.second = None;
-        self.third = None;
-        self.fourth = None;
+        self.others = None;
         self.first.apply(alloc, records)
     }
 }

@@ -49,7 +49,7 @@ impl<J: Naming> Model for Shown<J> {
 }
 
 impl<J: Naming> Shown<J> {
-    /// No key, over no entries. Striped, it has the rows of each key for readers of four stripes.
+    /// No key, over no entries. The rows of keys that are filled are striped, or are not (`KeyRows`).
     /// Errors: memory only.
     pub fn new(
         alloc: Global,

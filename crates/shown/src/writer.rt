@@ -40,8 +40,8 @@ impl<T: Absorb<O> + Drop, O: Drop, V, P: Protocol<T, V>, R: Wait + Drop> Drop
 pub type ShownWriter<J, R> = Board<Shown<J>, Delta<J>, Sight, Published, R>;
 
 /// The shown copy of a shard of a view, by the one right to it: it shows no key, over no entries,
-/// and has places for this many readers, one of which may be the first that others are made from.
-/// For more than two it has the rows of each key for readers of four stripes. Errors: memory only.
+/// and has places for this many readers. Where those are more than two, one of a session and one
+/// that others are made from, rows are striped. Errors: memory only.
 pub fn open<J: Naming, R: Wait + Drop>(
     rt: R,
     alloc: Global,

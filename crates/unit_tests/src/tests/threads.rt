@@ -139,7 +139,7 @@ fn takes_some<R: Wait>(
 }
 
 // Takes from two inboxes until both are closed, and says how many came in turn on the first edge of
-// each.
+// each. Once the first is closed, the second alone wakes it.
 fn takes_both<R: Wait>(
     rt: &R,
     alloc: Global,
@@ -148,12 +148,18 @@ fn takes_both<R: Wait>(
     second: &Inbox<u64>,
 ) -> Result<(u64, u64), AllocError> {
     let (mut one, mut other) = (0, 0);
+    let mut is_first_closed = false;
     for _ in rt.forever() {
-        wait_until(rt, watch, || first.is_ready() || second.is_ready());
-        let (next_one, is_first_closed) = takes_some(rt, alloc, first, one)?;
+        wait_until(
+            rt,
+            watch,
+            || second.is_ready() || !is_first_closed && first.is_ready(),
+        );
+        let (next_one, is_closed) = takes_some(rt, alloc, first, one)?;
         let (next_other, is_second_closed) = takes_some(rt, alloc, second, other)?;
         one = next_one;
         other = next_other;
+        is_first_closed = is_closed;
         if is_first_closed && is_second_closed {
             break;
         }
