@@ -15,6 +15,7 @@ const KEPT: usize = 256;
 #[derive(Drop)]
 pub struct Queues<T: Drop> {
     waiting: Vec<Waiting<T>>,
+    newest: usize,
 }
 
 impl<T: Drop> Queues<T> {
@@ -27,7 +28,7 @@ impl<T: Drop> Queues<T> {
             let none = Waiting::none(alloc);
             waiting.push(none)?;
         }
-        Ok(Queues { waiting })
+        Ok(Queues { waiting, newest: 0 })
     }
 
     /// How many edges there are.
@@ -45,6 +46,11 @@ impl<T: Drop> Queues<T> {
             Some(waiting) => waiting.len(),
             None => 0,
         }
+    }
+
+    /// The edge on which a message was put last; the first one before any was.
+    pub fn newest(&self) -> usize {
+        self.newest
     }
 
     /// Whether no edge has a message. Cost: linear in the edges.
@@ -81,6 +87,7 @@ impl<T: Drop> Queues<T> {
         ensures refused { OnErr result (self.new ≡ self.old) }
         ensures back { IfErr result (λ f. f.value ≡ message) }
     {
+        self.newest = edge;
         self.waiting[edge].put(message)
     }
 }

@@ -1,5 +1,5 @@
 //! The order in which a domain takes what comes to it.
-ghost use Rattle.std.specs.Prelude.{◌≡◌, ◌+◌, [], true, false, min, length, replicate, IfNone, IfOk, IfSome};
+ghost use Rattle.std.specs.Prelude.{◌≡◌, ◌+◌, [], true, false, drop, min, length, replicate, slice_get, slice_index_or, slice_set, IfNone, IfOk, IfSome};
 ghost use Rattle.links.specs.Queued.{holds_any};
 ghost use Rattle.links.specs.Turns.{IsFirst};
 
@@ -10,8 +10,9 @@ use std::marker::Model;
 use std::sync::Wait;
 
 /// The messages that were taken from the inbox of a domain and are not begun, and the number of
-/// its turn. It goes on with an edge until no message of it is left, then with the next edge; more
-/// are taken where none is left on any.
+/// its turn. It begins with the edge whose message came last, since a packet with changes takes
+/// longer to make than one that only says how far a log has come; it goes on with an edge until no
+/// message of it is left, then with the next edge; more are taken where none is left on any.
 #[derive(Drop)]
 pub struct Turns<T: Drop> {
     taken: Queues<T>,
@@ -69,8 +70,9 @@ impl<T: Drop> Turns<T> {
         inbox.take_all(rt, &mut self.taken)
     }
 
-    /// The next message that was taken: the first of the first edge that has one, from the edge on
-    /// that it is at. Takes no memory. Cost: constant, spread over many.
+    /// The next message that was taken: the first of the edge on which one came last, while that has
+    /// any, else of the first edge that has one, from the edge on that it is at. Takes no memory.
+    /// Cost: constant, spread over many.
     pub fn pop(&mut self) -> Option<T>
         ensures first { IfSome result (λ m. IsFirst self.old.waiting m self.new.waiting) }
         ensures counts { IfSome result (λ _. self.new.turn ≡ min (self.old.turn + 1) u64.MAX) }
@@ -78,13 +80,29 @@ impl<T: Drop> Turns<T> {
         ensures none { IfNone result (self.old.edge ≡ 0 → holds_any self.old.waiting ≡ false) }
         ensures edges { length self.new.waiting ≡ length self.old.waiting }
     {
+        let newest = self.taken.newest();
+        if self.taken.len(newest) > 0 {
+            return self.begin(newest);
+        }
         for edge in self.edge..self.taken.edges() {
             if self.taken.len(edge) > 0 {
                 self.edge = edge;
-                self.turn = self.turn.saturating_add(1);
-                return self.taken.pop(edge);
+                return self.begin(edge);
             }
         }
         None
+    }
+
+    // Begins with the first message of an edge.
+    fn begin(&mut self, edge: usize) -> Option<T>
+        ensures first { result ≡ slice_get (slice_index_or self.old.waiting edge []) 0 }
+        ensures rest { self.new ≡ record self.old {
+          waiting = slice_set self.old.waiting edge (drop 1
+              (slice_index_or self.old.waiting edge []));
+          turn = min (self.old.turn + 1) u64.MAX;
+        } }
+    {
+        self.turn = self.turn.saturating_add(1);
+        self.taken.pop(edge)
     }
 }

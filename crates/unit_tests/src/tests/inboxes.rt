@@ -4,6 +4,7 @@ ghost use Rattle.std.specs.Prelude.{◌≡◌, ◌<◌, length, IfOk};
 use crossbeam_utils::sync::EventCount;
 use links::inbox::{Inbox, Taking};
 use links::queues::Queues;
+use links::turns::Turns;
 use row::refused::Refused;
 use std::alloc::{AllocError, Global};
 use std::sync::{Arc, Wait};
@@ -120,5 +121,38 @@ fn a_crowd_is_let_in(rt: HostRuntime) -> Result<(), Fail> {
     assert!(rt; inbox.is_crowded());
     let taken = inbox.take_all(&rt, &mut queues) == Taking::Taken;
     assert!(rt; taken && queues.len(0) == 5000 && !inbox.is_crowded());
+    Ok(())
+}
+
+// An inbox of three edges with messages on the first, the last and the one between, put in that order.
+fn three_edges<R: Wait>(rt: &R, alloc: Global) -> Result<Inbox<u64>, Refused>
+    ensures { IfOk result (λ i. i ≡ 3) }
+{
+    let inbox = Inbox::new(alloc, 3, Arc::new(alloc, EventCount::new())?)?;
+    for (edge, message) in [(0, 1), (0, 2), (2, 3), (1, 4), (1, 5)] {
+        put(rt, &inbox, edge, message)?;
+    }
+    Ok(inbox)
+}
+
+// The messages that an inbox gives turn by turn, as the digits of a number.
+fn turns_of<R: Wait>(rt: &R, alloc: Global, inbox: &Inbox<u64>) -> Result<u64, Refused> {
+    let mut turns = Turns::new(alloc, inbox.edges())?;
+    turns.take(rt, inbox);
+    let mut all = 0u64;
+    for _ in 0..9 {
+        let Some(message) = turns.pop() else {
+            return Ok(all);
+        };
+        all = all.wrapping_mul(10).wrapping_add(message);
+    }
+    Ok(all)
+}
+
+// The edge comes first that had a message last, and then the others from the first on.
+#[test]
+fn the_edge_of_the_last_message_comes_first(rt: HostRuntime) -> Result<(), Fail> {
+    let inbox = three_edges(&rt, rt.alloc())?;
+    assert!(rt; turns_of(&rt, rt.alloc(), &inbox)? == 45123);
     Ok(())
 }
