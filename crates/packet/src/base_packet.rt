@@ -96,6 +96,11 @@ impl<F: Fronts> BasePacket<F> {
         self.to.base()
     }
 
+    /// Whether it carries rows that come or go.
+    pub fn has_changes(&self) -> bool {
+        !self.changes.is_empty()
+    }
+
     /// How many entries the front has that it starts at.
     pub fn from(&self) -> u64
         ensures { result ≡ length self.now.from }

@@ -7,6 +7,9 @@ use std::alloc::{AllocError, Global};
 use std::marker::Model;
 use std::mem;
 
+/// For how many an edge with nothing on it keeps room.
+const KEPT: usize = 8;
+
 /// What goes on one edge, in the order in which it goes.
 #[derive(Drop)]
 struct Edge<P: Drop> {
@@ -77,6 +80,15 @@ impl<P: Drop> Edge<P> {
     {
         mem::replace(&mut self.packets, Vec::new(alloc))
     }
+
+    /// Keeps the room of an empty list, where nothing is on it.
+    fn keep_room(&mut self, room: Vec<P>)
+        ensures { self.new.packets ≡ self.old.packets }
+    {
+        if self.packets.is_empty() && room.is_empty() && room.capacity() <= KEPT {
+            self.packets = room;
+        }
+    }
 }
 
 /// What one message makes a domain put out on each of its edges of a kind, in order.
@@ -112,6 +124,14 @@ impl<P: Drop> Edges<P> {
         ensures { result ≡ length self.now }
     {
         self.edges.len()
+    }
+
+    /// What is first on an edge; `None` where nothing is, or there is no such edge.
+    pub fn first(&self, edge: usize) -> Option<&P> {
+        match self.edges.get(edge) {
+            Some(edge) => edge.packets.first(),
+            None => None,
+        }
     }
 
     /// Room for one more on each edge, so that `push` takes no memory. `NoMemory` leaves what is on
@@ -210,5 +230,15 @@ impl<P: Drop> Edges<P> {
         ensures rest { packets_on self.new ≡ slice_set (packets_on self.old) edge [] }
     {
         self.edges[edge].take(alloc)
+    }
+
+    /// Gives an edge the room of a list that was taken from it and has nothing left, for up to eight:
+    /// so edges that are filled and emptied in turn soon take no more memory. What is on the edges
+    /// stays. It takes no memory.
+    pub fn keep_room(&mut self, edge: usize, room: Vec<P>)
+        requires { edge < length self.old }
+        ensures packets { packets_on self.new ≡ packets_on self.old }
+    {
+        self.edges[edge].keep_room(room);
     }
 }

@@ -3,6 +3,7 @@ ghost use Rattle.std.specs.Prelude.{◌≡◌, ◌<◌, length, map, replicate, 
 ghost use Rattle.packet.specs.Lines.{lengths_of};
 
 use model::fronts::Fronts;
+use smallvec::SmallVec;
 use std::alloc::{AllocError, Global};
 use std::marker::Model;
 
@@ -80,11 +81,11 @@ impl<F: Fronts> Line<F> {
         Ok(lines)
     }
 
-    /// How many entries each front has. Errors: memory only.
-    pub fn lengths(&self, alloc: Global) -> Result<Vec<u64>, AllocError>
+    /// How many entries each front has. Up to four take no memory. Errors: memory only.
+    pub fn lengths(&self, alloc: Global) -> Result<SmallVec<u64, 4>, AllocError>
         ensures { IfOk result (λ v. v.items ≡ lengths_of self.now) }
     {
-        let mut lengths = Vec::new(alloc);
+        let mut lengths = SmallVec::new(alloc);
         for front in &self.fronts {
             lengths.push(front.len())?;
         }

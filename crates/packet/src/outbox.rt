@@ -82,6 +82,14 @@ impl<F: Fronts> Outbox<F> {
         self.edges.send_to_each(packets);
     }
 
+    /// Whether the first packet to a stage shard carries rows that come or go.
+    pub fn has_changes(&self, stage: usize) -> bool {
+        match self.edges.first(stage) {
+            Some(packet) => packet.has_changes(),
+            None => false,
+        }
+    }
+
     /// All packets to a stage shard, in order, moved out of the outbox. It takes no memory.
     pub fn take(&mut self, alloc: Global, stage: usize) -> Vec<BasePacket<F>>
         requires { stage < length self.old.edges }
@@ -90,6 +98,16 @@ impl<F: Fronts> Outbox<F> {
         ensures reply { self.new.reply ≡ self.old.reply }
     {
         self.edges.take(alloc, stage)
+    }
+
+    /// Keeps the room of a list that `take` gave and that has nothing left, as `Edges::keep_room`
+    /// does. It takes no memory.
+    pub fn keep_room(&mut self, stage: usize, room: Vec<BasePacket<F>>)
+        requires { stage < length self.old.edges }
+        ensures packets { packets_on self.new.edges ≡ packets_on self.old.edges }
+        ensures reply { self.new.reply ≡ self.old.reply }
+    {
+        self.edges.keep_room(stage, room);
     }
 
     /// The packets to each stage shard, and the reply, moved out of it. It takes no memory.

@@ -9,6 +9,7 @@ use crate::reader::Reader;
 use crate::request::Marker;
 use model::fronts::Fronts;
 use row::value::Value;
+use smallvec::SmallVec;
 use std::marker::Model;
 
 /// What a packet of a stage shard carries: the rows that come and go, each beside its key, and the
@@ -28,7 +29,7 @@ pub struct Content {
 pub struct StagePacket<F: Fronts> {
     stage: usize,
     reader: Reader,
-    from: Vec<u64>,
+    from: SmallVec<u64, 4>,
     to: Line<F>,
     content: Content,
 }
@@ -62,7 +63,7 @@ impl<F: Fronts> StagePacket<F> {
     pub fn new(
         stage: usize,
         reader: Reader,
-        from: Vec<u64>,
+        from: SmallVec<u64, 4>,
         to: Line<F>,
         content: Content,
     ) -> StagePacket<F>
@@ -86,6 +87,11 @@ impl<F: Fronts> StagePacket<F> {
         self.stage
     }
 
+    /// Whether it carries rows that come or go.
+    pub fn has_changes(&self) -> bool {
+        !self.content.changes.is_empty()
+    }
+
     /// The shard of a view that it goes to.
     pub fn reader(&self) -> Reader
         ensures view { result.view ≡ self.now.view }
@@ -104,7 +110,7 @@ impl<F: Fronts> StagePacket<F> {
     }
 
     /// Its parts, moved out of it.
-    pub fn into_parts(self) -> (Vec<u64>, Line<F>, Content)
+    pub fn into_parts(self) -> (SmallVec<u64, 4>, Line<F>, Content)
         ensures parts { self ≡ stage_packet_of self.stage
             (record { view = self.view; shard = self.shard }) result.0.items result.1 result.2 }
         ensures of { AreOf self.plan result.1 }

@@ -55,6 +55,14 @@ impl<F: Fronts> StageOutbox<F> {
         self.requests.count()
     }
 
+    /// Whether the first packet to a view shard carries rows that come or go.
+    pub fn has_changes(&self, reader: usize) -> bool {
+        match self.packets.first(reader) {
+            Some(packet) => packet.has_changes(),
+            None => false,
+        }
+    }
+
     /// The packets to a view shard, in order, moved out of it. It takes no memory.
     pub fn take_packets(&mut self, alloc: Global, reader: usize) -> Vec<StagePacket<F>>
         requires { reader < length self.old.packets }
@@ -64,6 +72,16 @@ impl<F: Fronts> StageOutbox<F> {
         ensures others { self.new ≡ record self.old { packets = self.new.packets } }
     {
         self.packets.take(alloc, reader)
+    }
+
+    /// Keeps the room of a list that `take_packets` gave and that has nothing left, as
+    /// `Edges::keep_room` does. It takes no memory.
+    pub fn keep_room(&mut self, reader: usize, room: Vec<StagePacket<F>>)
+        requires { reader < length self.old.packets }
+        ensures packets { packets_on self.new.packets ≡ packets_on self.old.packets }
+        ensures others { self.new ≡ record self.old { packets = self.new.packets } }
+    {
+        self.packets.keep_room(reader, room);
     }
 
     /// The requests to a source, in order, moved out of it. It takes no memory.

@@ -18,7 +18,7 @@ starts_at-requires-clause-one g c =
     lines_meet g.F.Fronts.are_one _ c.args.stage c.args.sent (rw (← c.self.view_is) at c.requires.from) holds c.index.result.now c.index.ensures c.into_parts-from.result.1 c.into_parts-from.ensures.of (ap (λ (x : StagePacketView). x.to) c.into_parts-from.ensures.parts)
 
 pub starts_at-requires-clause-count : goal.starts_at-requires-clause-count
-starts_at-requires-clause-count g c = rw c.deref.ensures.value
+starts_at-requires-clause-count g c = rw c.deref.ensures
     (lengths_reach c.into_parts-from.result.0.items c.into_parts-from.result.1 (subst (λ (x : StagePacketView). Grows x.from x.to) c.into_parts-from.ensures.parts c.into_parts-from.ensures.truth.grows))
 
 pub invariant_of-self : goal.invariant_of-self
@@ -29,13 +29,13 @@ returns-then-not-starts_at-clause-refused g c =
     let holds = c.self.invariant.1 (sound c.self.inside.mode (rw (← c.self.view_is) at c.requires.ready.running)) in
     rw (← c.self.view_is) (record {
       silent = c.requires.ready.clear;
-      why = inl (refl, not_next g.F.Fronts.are_one _ c.args.stage c.args.sent (rw (← c.self.view_is) at c.requires.from) holds c.index.result.now c.index.ensures _ (ap (λ (x : StagePacketView). x.from) c.into_parts-from.ensures.parts) (rw c.deref.ensures.value at c.if-not-starts_at.ensures.1), refl);
+      why = inl (refl, not_next g.F.Fronts.are_one _ c.args.stage c.args.sent (rw (← c.self.view_is) at c.requires.from) holds c.index.result.now c.index.ensures _ (ap (λ (x : StagePacketView). x.from) c.into_parts-from.ensures.parts) (rw c.deref.ensures at c.if-not-starts_at.ensures.1), refl);
     })
 
 pub prepare-requires-clause-may : goal.prepare-requires-clause-may
 prepare-requires-clause-may g c =
     let holds = c.self.invariant.1 (sound c.self.inside.mode (rw (← c.self.view_is) at c.requires.ready.running)) in
-    let t = taken g.F.Fronts.are_one _ c.args.stage c.args.sent (rw (← c.self.view_is) at c.requires.from) holds c.index.result.now c.index.ensures _ c.into_parts-from.ensures.parts c.into_parts-from.ensures.truth ((rw c.deref.ensures.value at c.if-not-starts_at.ensures.0) refl) in
+    let t = taken g.F.Fronts.are_one _ c.args.stage c.args.sent (rw (← c.self.view_is) at c.requires.from) holds c.index.result.now c.index.ensures _ c.into_parts-from.ensures.parts c.into_parts-from.ensures.truth ((rw c.deref.ensures at c.if-not-starts_at.ensures.0) refl) in
     record {
       up = t.truth.order;
       apart = all_apart _ c.into_parts-from.result.2.changes.items t.truth.told;
@@ -45,7 +45,7 @@ prepare-requires-clause-may g c =
 pub returns-in_default-clause-refused : goal.returns-in_default-clause-refused
 returns-in_default-clause-refused g c =
     let holds = c.self.invariant.1 (sound c.self.inside.mode (rw (← c.self.view_is) at c.requires.ready.running)) in
-    let t = taken g.F.Fronts.are_one _ c.args.stage c.args.sent (rw (← c.self.view_is) at c.requires.from) holds c.index.result.now c.index.ensures _ c.into_parts-from.ensures.parts c.into_parts-from.ensures.truth ((rw c.deref.ensures.value at c.if-not-starts_at.ensures.0) refl) in
+    let t = taken g.F.Fronts.are_one _ c.args.stage c.args.sent (rw (← c.self.view_is) at c.requires.from) holds c.index.result.now c.index.ensures _ c.into_parts-from.ensures.parts c.into_parts-from.ensures.truth ((rw c.deref.ensures at c.if-not-starts_at.ensures.0) refl) in
     rw (← c.self.view_is) (record {
       silent = c.requires.ready.clear;
       why = inr (refl, t.next ∙ ap (λ (x : StagePacketView). Some x.from) (sym c.into_parts-from.ensures.parts), refl);
@@ -56,7 +56,7 @@ invariant_of-self-2 g c = (
   c.self.invariant.0,
   λ b.
       let holds = c.self.invariant.1 (sound c.self.inside.mode (rw (← c.self.view_is) at c.requires.ready.running)) in
-      let t = taken g.F.Fronts.are_one _ c.args.stage c.args.sent (rw (← c.self.view_is) at c.requires.from) holds c.index.result.now c.index.ensures _ c.into_parts-from.ensures.parts c.into_parts-from.ensures.truth ((rw c.deref.ensures.value at c.if-not-starts_at.ensures.0) refl) in
+      let t = taken g.F.Fronts.are_one _ c.args.stage c.args.sent (rw (← c.self.view_is) at c.requires.from) holds c.index.result.now c.index.ensures _ c.into_parts-from.ensures.parts c.into_parts-from.ensures.truth ((rw c.deref.ensures at c.if-not-starts_at.ensures.0) refl) in
       packet_holds _ c.args.stage _ t.plan t.stage t.view t.shard t.holds t.truth t.next c.prepare.new.kept c.into_parts-from.result.1 c.count-self-inside.result c.prepare.new.marks refl (subst (λ (y : StagePacketView). AreOf y.plan c.into_parts-from.result.1) c.into_parts-from.ensures.parts c.into_parts-from.ensures.of) c.in-Ok.ensures.sources c.in-Ok.ensures.truth
       (ap (λ (m : MarksView). m.senders) c.in-Ok.ensures.marks) (left_waiting c.prepare.new.marks c.self.inside.marks (marks_with c.self.inside.marks.senders c.args.stage (mark_in c.into_parts-from.result.2.marker) c.self.inside.marks.waiting) c.in-Ok.ensures.marks),
 )
@@ -65,7 +65,7 @@ pub returns-clause-done : goal.returns-clause-done
 returns-clause-done g c =
     let running = rw (← c.self.view_is) at c.requires.ready.running in
     let holds = c.self.invariant.1 (sound c.self.inside.mode running) in
-    let t = taken g.F.Fronts.are_one _ c.args.stage c.args.sent (rw (← c.self.view_is) at c.requires.from) holds c.index.result.now c.index.ensures _ c.into_parts-from.ensures.parts c.into_parts-from.ensures.truth ((rw c.deref.ensures.value at c.if-not-starts_at.ensures.0) refl) in
+    let t = taken g.F.Fronts.are_one _ c.args.stage c.args.sent (rw (← c.self.view_is) at c.requires.from) holds c.index.result.now c.index.ensures _ c.into_parts-from.ensures.parts c.into_parts-from.ensures.truth ((rw c.deref.ensures at c.if-not-starts_at.ensures.0) refl) in
     let shown = ap (λ (o : OutboxView). o.shown) c.put.ensures.rest in
     let ack = ap (λ (o : OutboxView). marks_in o.ack) c.put.ensures.rest in
     let edges = rw (← c.self.view_is) at c.requires.ready.edges in
