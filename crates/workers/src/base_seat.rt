@@ -1,7 +1,7 @@
 //! The turns of a base shard in its thread.
-ghost use Rattle.std.specs.Prelude.{◌≡◌, ◌<◌, false, length};
+ghost use Rattle.std.specs.Prelude.{◌≡◌, ◌<◌, [], false, length, slice_set};
 ghost use Rattle.base_domain.specs.Received.{Stays};
-ghost use Rattle.packet.specs.Outboxes.{IsClear};
+ghost use Rattle.packet.specs.Outboxes.{IsClear, packets_on};
 ghost use Rattle.domain_turns.specs.BaseTurns.{Went, log_in};
 
 use crate::duty::BaseDuty;
@@ -166,8 +166,9 @@ fn pass_on<J: Naming, R: Wait>(
     }
 }
 
-// Sends the packets to each stage shard, in order, and leaves the outbox clear. Errors: a packet
-// was refused; none is sent after it.
+// Sends the packets to each stage shard, in order, those first that carry changes, since a session
+// may wait to be shown them, and leaves the outbox clear. Errors: a packet was refused; none is sent
+// after it.
 fn send<J: Naming, R: Wait>(
     worker: &Worker<J, R>,
     out: &mut Outbox<Front<J>>,
@@ -176,16 +177,67 @@ fn send<J: Naming, R: Wait>(
     ensures clear { IsClear out.new }
     ensures edges { length out.new.edges ≡ length out.old.edges }
 {
-    let (rt, routes, base) = (worker.rt, worker.routes, worker.place);
-    let source = routes.sources().iter().position(|own| *own == base);
+    let sent = send_changes(worker, out);
+    send_others(worker, out, sent)
+}
+
+// Sends the packets to each stage shard to which one carries changes, and leaves none there. Errors:
+// a packet was refused; none is sent after it.
+fn send_changes<J: Naming, R: Wait>(
+    worker: &Worker<J, R>,
+    out: &mut Outbox<Front<J>>,
+) -> Result<(), Refused>
+    ensures reply { out.new.reply ≡ out.old.reply }
+    ensures edges { length out.new.edges ≡ length out.old.edges }
+{
     let mut sent = Ok(());
     for stage in 0..out.stages() {
-        let packets = out.take(worker.alloc, stage);
-        if let Some(source) = source {
-            sent = send_each(sent, packets, |packet| {
-                routes.to_stage(rt, source, stage, ToStage::Packet { source, packet })
-            });
+        if out.has_changes(stage) {
+            sent = send_to(worker, out, stage, sent);
         }
     }
+    sent
+}
+
+// Sends the packets to each stage shard, in order, where all went well so far, and leaves the outbox
+// clear. Errors: that of before, or a packet was refused; none is sent after it.
+fn send_others<J: Naming, R: Wait>(
+    worker: &Worker<J, R>,
+    out: &mut Outbox<Front<J>>,
+    mut sent: Result<(), Refused>,
+) -> Result<(), Refused>
+    requires reply { out.old.reply ≡ None }
+    ensures clear { IsClear out.new }
+    ensures edges { length out.new.edges ≡ length out.old.edges }
+{
+    for stage in 0..out.stages() {
+        sent = send_to(worker, out, stage, sent);
+    }
+    sent
+}
+
+// Sends the packets to a stage shard, in order, where all went well so far, and leaves none. Errors:
+// that of before, or a packet was refused; none is sent after it.
+fn send_to<J: Naming, R: Wait>(
+    worker: &Worker<J, R>,
+    out: &mut Outbox<Front<J>>,
+    stage: usize,
+    sent: Result<(), Refused>,
+) -> Result<(), Refused>
+    requires stage { stage < length out.old.edges }
+    ensures none { packets_on out.new.edges ≡ slice_set (packets_on out.old.edges) stage [] }
+    ensures edges { length out.new.edges ≡ length out.old.edges }
+    ensures reply { out.new.reply ≡ out.old.reply }
+{
+    let (rt, routes, base) = (worker.rt, worker.routes, worker.place);
+    let mut packets = out.take(worker.alloc, stage);
+    let sent = match routes.sources().iter().position(|own| *own == base) {
+        Some(source) => send_each(sent, &mut packets, |packet| {
+            routes.to_stage(rt, source, stage, ToStage::Packet { source, packet })
+        }),
+        None => sent,
+    };
+    packets.clear();
+    out.keep_room(stage, packets);
     sent
 }

@@ -1,5 +1,5 @@
 //! The turns of a stage shard in its thread.
-ghost use Rattle.std.specs.Prelude.{◌≡◌, ◌<◌, length};
+ghost use Rattle.std.specs.Prelude.{◌≡◌, ◌<◌, [], length, slice_set};
 ghost use Rattle.packet.specs.{Messages.none_of, Outboxes.packets_on, declared.mode.Mode.TheVariants.Running};
 ghost use Rattle.stage_steps.specs.{Codes.message_of, Outboxes.AreEdges, Outboxes.IsSilent};
 ghost use Rattle.domain_turns.specs.StageTurns.{Went};
@@ -153,8 +153,8 @@ fn send<J: Naming, R: Wait>(
     send_requests(worker, out, sent)
 }
 
-// Sends the packets to each view shard, in order, and leaves none. Errors: a packet was refused;
-// none is sent after it.
+// Sends the packets to each view shard, in order, those first that carry changes, since a session
+// may wait to be shown them, and leaves none. Errors: a packet was refused; none is sent after it.
 fn send_packets<J: Naming, R: Wait>(
     worker: &Worker<J, R>,
     out: &mut StageOutbox<Front<J>>,
@@ -163,14 +163,65 @@ fn send_packets<J: Naming, R: Wait>(
     ensures rest { out.new ≡ record out.old { packets = out.new.packets } }
     ensures edges { length out.new.packets ≡ length out.old.packets }
 {
-    let (rt, routes, stage) = (worker.rt, worker.routes, worker.place);
+    let sent = send_changes(worker, out);
+    send_others(worker, out, sent)
+}
+
+// Sends the packets to each view shard to which one carries changes, and leaves none there. Errors: a
+// packet was refused; none is sent after it.
+fn send_changes<J: Naming, R: Wait>(
+    worker: &Worker<J, R>,
+    out: &mut StageOutbox<Front<J>>,
+) -> Result<(), Refused>
+    ensures rest { out.new ≡ record out.old { packets = out.new.packets } }
+    ensures edges { length out.new.packets ≡ length out.old.packets }
+{
     let mut sent = Ok(());
     for reader in 0..out.readers() {
-        let packets = out.take_packets(worker.alloc, reader);
-        sent = send_each(sent, packets, |packet| {
-            routes.to_view(rt, stage, reader, ViewMail::Packet { stage, packet })
-        });
+        if out.has_changes(reader) {
+            sent = send_to(worker, out, reader, sent);
+        }
     }
+    sent
+}
+
+// Sends the packets to each view shard, in order, where all went well so far, and leaves none. Errors:
+// that of before, or a packet was refused; none is sent after it.
+fn send_others<J: Naming, R: Wait>(
+    worker: &Worker<J, R>,
+    out: &mut StageOutbox<Front<J>>,
+    mut sent: Result<(), Refused>,
+) -> Result<(), Refused>
+    ensures none { packets_on out.new.packets ≡ none_of out.new.packets }
+    ensures rest { out.new ≡ record out.old { packets = out.new.packets } }
+    ensures edges { length out.new.packets ≡ length out.old.packets }
+{
+    for reader in 0..out.readers() {
+        sent = send_to(worker, out, reader, sent);
+    }
+    sent
+}
+
+// Sends the packets to a view shard, in order, where all went well so far, and leaves none. Errors:
+// that of before, or a packet was refused; none is sent after it.
+fn send_to<J: Naming, R: Wait>(
+    worker: &Worker<J, R>,
+    out: &mut StageOutbox<Front<J>>,
+    reader: usize,
+    sent: Result<(), Refused>,
+) -> Result<(), Refused>
+    requires reader { reader < length out.old.packets }
+    ensures none { packets_on out.new.packets ≡ slice_set (packets_on out.old.packets) reader [] }
+    ensures rest { out.new ≡ record out.old { packets = out.new.packets } }
+    ensures edges { length out.new.packets ≡ length out.old.packets }
+{
+    let (rt, routes, stage) = (worker.rt, worker.routes, worker.place);
+    let mut packets = out.take_packets(worker.alloc, reader);
+    let sent = send_each(sent, &mut packets, |packet| {
+        routes.to_view(rt, stage, reader, ViewMail::Packet { stage, packet })
+    });
+    packets.clear();
+    out.keep_room(reader, packets);
     sent
 }
 
@@ -188,8 +239,8 @@ fn send_requests<J: Naming, R: Wait>(
 {
     let (rt, routes, stage) = (worker.rt, worker.routes, worker.place);
     for source in 0..out.sources() {
-        let requests = out.take_requests(worker.alloc, source);
-        sent = send_each(sent, requests, |request| {
+        let mut requests = out.take_requests(worker.alloc, source);
+        sent = send_each(sent, &mut requests, |request| {
             routes.stage_to_source(rt, stage, source, request)
         });
     }

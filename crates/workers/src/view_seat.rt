@@ -220,8 +220,8 @@ fn send<J: Naming, R: Wait>(
     let (rt, routes, reader) = (worker.rt, worker.routes, worker.place);
     let mut sent = Ok(());
     for stage in 0..stages {
-        let requests = out.take_requests(worker.alloc, stage);
-        sent = send_each(sent, requests, |request| {
+        let mut requests = out.take_requests(worker.alloc, stage);
+        sent = send_each(sent, &mut requests, |request| {
             routes.to_stage(rt, reader, stage, ToStage::Request(request))
         });
     }

@@ -30,17 +30,17 @@ impl<'r, J: Naming, R> Worker<'r, J, R> {
     }
 }
 
-/// Sends each of these in order, where all went well so far. Errors: that of before, or one was
-/// refused; none is sent after it.
+/// Sends each of these in order, where all went well so far, and leaves the room that they had.
+/// Errors: that of before, or one was refused; none is sent after it.
 pub(crate) fn send_each<P: Drop, F: Fn(P) -> Result<(), Refused>>(
     sent: Result<(), Refused>,
-    all: Vec<P>,
+    all: &mut Vec<P>,
     send: F,
 ) -> Result<(), Refused>
     requires { F.IsAlwaysCallable send }
 {
     sent?;
-    for one in all {
+    for one in all.drain(..) {
         send(one)?;
     }
     Ok(())
