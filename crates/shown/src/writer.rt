@@ -96,7 +96,7 @@ impl<J: Naming, R: Wait + Drop> ShownWriter<J, R> {
         let (stage, line, keys, asked) = change.into_parts();
         self.append_keys(keys)?;
         self.append_line(stage, line)?;
-        self.append(Delta::Asks(asked))?;
+        self.append_asked(asked)?;
         self.publish()
     }
 
@@ -127,6 +127,21 @@ impl<J: Naming, R: Wait + Drop> ShownWriter<J, R> {
             Some(line) => self.append(Delta::Moves(Moved::new(stage, line))),
             None => Ok(()),
         }
+    }
+
+    // Puts the count of requests, where it is not the one that is shown, behind what is not
+    // published yet.
+    fn append_asked(&mut self, asked: u64) -> Result<(), AllocError>
+        requires { (ahead (state self.old)).asked ≡ (shown self.old).asked }
+        ensures ahead { OnOk result (ahead (state self.new) ≡ record (ahead (state self.old)) {
+          asked = asked;
+        }) }
+        ensures shown { shown self.new ≡ shown self.old }
+    {
+        if asked == self.writer.published().asked() {
+            return Ok(());
+        }
+        self.append(Delta::Asks(asked))
     }
 
     // Puts a step behind those that are not published yet. Where memory is refused, nothing
