@@ -7,7 +7,7 @@ use Rattle.machine.proofs.views.cut_lengths.Goals as goal
 pub loop-line-preserved : goal.loop-line-preserved
 loop-line-preserved g c = record {
   cut = cut_more c.cut-line-items.result.now c.loop-line.line-index _ c.line-item.result c.loop-line.cut c.push_line.new.self c.as_slice.result.now c.loop-line-test.true
-      c.loop-line.invariant.cut c.in_ok-push_line.ensures.ok (c.as_slice.ensures.value ∙ c.in_ok-lengths.ensures) c.line-item.is;
+      c.loop-line.invariant.cut c.in_ok-push_line.ensures.ok (c.as_slice.ensures ∙ c.in_ok-lengths.ensures) c.line-item.is;
 }
 
 pub returns : goal.returns
