@@ -1,5 +1,5 @@
 //! What a stage shard tells a view shard.
-ghost use Rattle.std.specs.Prelude.{◌≡◌};
+ghost use Rattle.std.specs.Prelude.{◌≡◌, IfOk};
 ghost use Rattle.packet.specs.{Codes.stage_packet_of, Lines.AreOf, Lines.entries_of, Lines.plan_of, Truth.IsTrueStage};
 
 use crate::keyed::Keyed;
@@ -10,6 +10,7 @@ use crate::request::Marker;
 use model::fronts::Fronts;
 use row::value::Value;
 use smallvec::SmallVec;
+use std::alloc::{AllocError, Global};
 use std::marker::Model;
 
 /// What a packet of a stage shard carries: the rows that come and go, each beside its key, and the
@@ -22,11 +23,8 @@ pub struct Content {
     pub marker: Option<Marker>,
 }
 
-/// What a stage shard tells a shard of a view, between two lines. By its type it is true: as bags,
-/// the stage shard's part of each key at the one line with the changes of the key is its part at
-/// the other, but for the keys that it evicts, each once and in order; and a piece is the stage
-/// shard's part of its key. The line has a front of each source of its plan.
-pub struct StagePacket<F: Fronts> {
+/// What a packet is made of.
+struct Parts<F: Fronts> {
     stage: usize,
     reader: Reader,
     from: SmallVec<u64, 4>,
@@ -34,10 +32,10 @@ pub struct StagePacket<F: Fronts> {
     content: Content,
 }
 
-// What holds one drops it by this call, and need not know its parts.
-impl<F: Fronts> Drop for StagePacket<F> {
+// What holds them drops them by this call.
+impl<F: Fronts> Drop for Parts<F> {
     fn drop(self) {
-        let StagePacket {
+        let Parts {
             stage: _,
             reader: _,
             from: _,
@@ -47,49 +45,89 @@ impl<F: Fronts> Drop for StagePacket<F> {
     }
 }
 
+impl<F: Fronts> Parts<F> {
+    fn into_fields(self) -> (SmallVec<u64, 4>, Line<F>, Content)
+        ensures from { result.0 ≡ self.from }
+        ensures to { result.1 ≡ self.to }
+        ensures content { result.2 ≡ self.content }
+    {
+        let Parts {
+            stage: _,
+            reader: _,
+            from,
+            to,
+            content,
+        } = self;
+        (from, to, content)
+    }
+}
+
+/// What a stage shard tells a shard of a view, between two lines. By its type it is true: as bags,
+/// the stage shard's part of each key at the one line with the changes of the key is its part at
+/// the other, but for the keys that it evicts, each once and in order; and a piece is the stage
+/// shard's part of its key. The line has a front of each source of its plan. Its parts are one piece
+/// of memory, which stays where it is while the packet goes from hand to hand.
+pub struct StagePacket<F: Fronts> {
+    parts: Box<Parts<F>>,
+}
+
+// What holds one drops it by this call, and need not know its parts.
+impl<F: Fronts> Drop for StagePacket<F> {
+    fn drop(self) {
+        let StagePacket { parts: _ } = self;
+    }
+}
+
 impl<F: Fronts> Model for StagePacket<F> {
     ghost use Rattle.packet.specs.{Messages.StagePacketView, Codes.stage_packet_of, Lines.AreOf, Lines.plan_of, Truth.IsTrueStage};
 
     ghost Value = { StagePacketView };
 
-    ghost view = { λ x. stage_packet_of x.stage x.reader x.from.items x.to x.content };
+    ghost view = { λ x. stage_packet_of x.parts.value.stage x.parts.value.reader
+        x.parts.value.from.items x.parts.value.to x.parts.value.content };
 
-    ghost invariant = { λ x. AreOf (plan_of x.to) x.to
-        × IsTrueStage (stage_packet_of x.stage x.reader x.from.items x.to x.content) };
+    ghost invariant = { λ x. AreOf (plan_of x.parts.value.to) x.parts.value.to
+        × IsTrueStage (stage_packet_of x.parts.value.stage x.parts.value.reader
+        x.parts.value.from.items x.parts.value.to x.parts.value.content) };
 }
 
 impl<F: Fronts> StagePacket<F> {
-    /// A packet that starts at the first `from` entries of each of the line's logs.
+    /// A packet that starts at the first `from` entries of each of the line's logs. Errors: memory
+    /// only.
     pub fn new(
+        alloc: Global,
         stage: usize,
         reader: Reader,
         from: SmallVec<u64, 4>,
         to: Line<F>,
         content: Content,
-    ) -> StagePacket<F>
+    ) -> Result<StagePacket<F>, AllocError>
         requires of { AreOf (plan_of to) to }
         requires truth { IsTrueStage (stage_packet_of stage reader from.items to content) }
-        ensures { result ≡ stage_packet_of stage reader from.items to content }
+        ensures { IfOk result (λ x. x ≡ stage_packet_of stage reader from.items to content) }
     {
-        StagePacket {
+        let parts = Parts {
             stage,
             reader,
             from,
             to,
             content,
-        }
+        };
+        Ok(StagePacket {
+            parts: Box::new(alloc, parts)?,
+        })
     }
 
     /// The stage shard that it comes from.
     pub fn stage(&self) -> usize
         ensures { result ≡ self.now.stage }
     {
-        self.stage
+        self.parts.stage
     }
 
     /// Whether it carries rows that come or go.
     pub fn has_changes(&self) -> bool {
-        !self.content.changes.is_empty()
+        !self.parts.content.changes.is_empty()
     }
 
     /// The shard of a view that it goes to.
@@ -97,7 +135,7 @@ impl<F: Fronts> StagePacket<F> {
         ensures view { result.view ≡ self.now.view }
         ensures shard { result.shard ≡ self.now.shard }
     {
-        self.reader
+        self.parts.reader
     }
 
     /// The line that it ends at, which has a front of each source of its plan.
@@ -106,7 +144,7 @@ impl<F: Fronts> StagePacket<F> {
         ensures to { entries_of result.now ≡ self.now.to }
         ensures of { AreOf self.now.plan result.now }
     {
-        &self.to
+        &self.parts.to
     }
 
     /// Its parts, moved out of it.
@@ -116,13 +154,7 @@ impl<F: Fronts> StagePacket<F> {
         ensures of { AreOf self.plan result.1 }
         ensures truth { IsTrueStage self }
     {
-        let StagePacket {
-            stage: _,
-            reader: _,
-            from,
-            to,
-            content,
-        } = self;
-        (from, to, content)
+        let StagePacket { parts } = self;
+        Box::into_inner(parts).into_fields()
     }
 }

@@ -114,12 +114,13 @@ fn packet_to<'a, F: Fronts>(
     };
     let lengths = news.from.lengths(alloc)?;
     Ok(Some(StagePacket::new(
+        alloc,
         news.stage,
         reader,
         lengths,
         news.to.try_clone(alloc)?,
         content,
-    )))
+    )?))
 }
 
 /// Whether a packet that evicts these keys is told.

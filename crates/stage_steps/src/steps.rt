@@ -361,7 +361,7 @@ impl<'p, F: Fronts> StageShard<'p, F> {
         };
         let lengths = self.line.lengths(alloc)?;
         let line = self.line.try_clone(alloc)?;
-        Ok(StagePacket::new(self.shard, reader, lengths, line, content))
+        StagePacket::new(alloc, self.shard, reader, lengths, line, content)
     }
 
     /// Makes a filled stage key a hole, and tells each view shard of its keys that have left rows

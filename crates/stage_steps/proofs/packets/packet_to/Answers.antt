@@ -37,4 +37,4 @@ returns g c =
     (plan_is n.plan.now n.to.now c.keeps_profile.ensures c.requires.of) c.in_ok-try_clone.ensures c.in_ok-lengths.ensures c.requires.truth.grows c.in_ok-evicts.ensures keyed refl refl in
     let yes : c.is_told.result ≡ true = search rules in
     let is : is_told c.args.each evicts ≡ true = sym (ap (is_told c.args.each) (ap (map datum_of) c.deref.ensures.value ∙ c.in_ok-evicts.ensures)) ∙ (sym c.is_told.ensures ∙ yes) in
-    ap Some (c.new-2.ensures ∙ same) ∙ sym (ap (λ b. cond b (Some (told n.plan.now n.stage (entries_of n.from.now) (entries_of n.to.now) n.records.now (names_in n.names.now) (mark_in n.marker) r)) None) is)
+    ap Some (c.in_ok-new.ensures ∙ same) ∙ sym (ap (λ b. cond b (Some (told n.plan.now n.stage (entries_of n.from.now) (entries_of n.to.now) n.records.now (names_in n.names.now) (mark_in n.marker) r)) None) is)

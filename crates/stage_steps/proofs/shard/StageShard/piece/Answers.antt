@@ -1,4 +1,5 @@
 use Rattle.std.proofs.Common.{◌≡◌, ◌<◌, true, Some, None, filter, length, refl, ap, sym, ◌∙◌, subst}
+use Rattle.std.proofs.lemmas.Result.{IfOk-weaker}
 use Rattle.std.specs.List.{list_all}
 use Rattle.row.specs.Bags.{sorted}
 use Rattle.row.specs.Cells.{datum_of, has, row_cmp}
@@ -52,4 +53,4 @@ returns g c =
     let same = same_answer x.plan x.shard c.args.reader c.in_ok-lengths.lengths.items x.line c.in_ok-line.line c.args.ask.tag k
     (record { changes = c.new.result; evicts = c.new-2.result; piece = Some c.new-3.result; marker = None }) plan c.in_ok-line.ensures c.in_ok-lengths.ensures c.new.ensures.items c.new-2.ensures.items
     (ap Some (piece_is c.new-3.result c.tag-tag.result.0 c.args.ask.tag (datum_of c.into_key.result) k c.in_ok-rows.rows.items (sorted row_cmp (part x.plan x.shard (entries_of x.line) c.args.reader.view k)) c.new-3.ensures c.tag-tag.ensures c.into_key.ensures rows)) refl in
-    c.new-4.ensures ∙ (same ∙ ap (λ (x : Shard). answer_of x.plan x.shard (entries_of x.line) c.args.ask.tag c.args.reader.view c.args.reader.shard k) c.self.view_is)
+    IfOk-weaker c.new-4.result _ _ (λ z own. own ∙ (same ∙ ap (λ (x : Shard). answer_of x.plan x.shard (entries_of x.line) c.args.ask.tag c.args.reader.view c.args.reader.shard k) c.self.view_is)) c.new-4.ensures
