@@ -8,3 +8,4 @@ pub mod HeldSteps
 pub mod Sets
 pub mod RightSteps
 pub mod RightChange
+pub mod Unmoved
