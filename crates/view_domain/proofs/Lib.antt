@@ -4,6 +4,7 @@ mod BagSteps
 mod ChangeSteps
 mod FillSteps
 mod TakeSteps
+mod PartSteps
 mod LineSteps
 mod OutSteps
 mod AskSteps

@@ -94,7 +94,7 @@ fn tell_if(told: &mut Vec<KeyChange>, shown: bool, change: KeyChange) -> Result<
 }
 
 /// Takes in the records of a key, and says what that changes.
-fn change_key(
+pub(crate) fn change_key(
     alloc: Global,
     kept: &mut Partial<Value, Bag>,
     source: usize,

@@ -5,6 +5,7 @@ mod asks;
 pub mod keys;
 pub mod message;
 pub mod outbox;
+mod parts;
 pub mod shown;
 mod takes;
 mod turn;

@@ -6,9 +6,9 @@ ghost use Rattle.packet.specs.{Keys.is_among, Keys.stands_of, Truth.changes_at, 
 ghost use Rattle.protocol.specs.ViewSteps.{again, capped, drop_all, give_piece};
 ghost use Rattle.view_domain.specs.{Shown.LeadsTo, Shown.rows_at, Taken.IsStepOf, Taken.IsPieceFor, Taken.MayTake};
 
-use crate::keys::{cap_keys, change_keys, evict_keys, fill_key};
+use crate::keys::{cap_keys, evict_keys, fill_key};
+use crate::parts::{change_parted, part_by_key};
 use crate::shown::KeyChange;
-use packet::groups::grouped;
 use packet::keyed::Keyed;
 use packet::piece::Piece;
 use partial::bags::bag_of;
@@ -52,8 +52,8 @@ fn take_changes(
     let mut told = Vec::new(alloc);
     let mut asks = Vec::new(alloc);
     evict_keys(kept, source, evicts, &mut told, &mut asks)?;
-    let groups = grouped(alloc, changes)?;
-    change_keys(alloc, kept, source, groups, &mut told)?;
+    let records = part_by_key(alloc, changes)?;
+    change_parted(alloc, kept, source, records, &mut told)?;
     Ok(Taken { told, asks })
 }
 
