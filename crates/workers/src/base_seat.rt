@@ -36,6 +36,7 @@ pub(crate) struct BaseSeat<'r, J: Naming, R> {
     out: Outbox<Front<J>>,
     turns: Turns<BaseMail<J>>,
     id: DomainId,
+    source: Option<usize>,
 }
 
 impl<'r, J: Naming, R> Model for BaseSeat<'r, J, R> {
@@ -70,6 +71,7 @@ impl<'r, J: Naming, R: Wait> BaseSeat<'r, J, R> {
             out: Outbox::new(alloc, routes.plan().stages())?,
             turns: Turns::new(alloc, inbox.edges())?,
             id: id_of(routes.plan(), base),
+            source: routes.sources().iter().position(|own| *own == base),
         })
     }
 
@@ -98,7 +100,13 @@ impl<'r, J: Naming, R: Wait> BaseSeat<'r, J, R> {
             return false;
         };
         gate.before(self.id, number);
-        take(&self.worker, &mut self.domain, mail, &mut self.out);
+        take(
+            &self.worker,
+            self.source,
+            &mut self.domain,
+            mail,
+            &mut self.out,
+        );
         gate.after(self.id, number);
         true
     }
@@ -117,6 +125,7 @@ fn id_of(plan: &Plan, base: usize) -> DomainId {
 // turn.
 fn take<J: Naming, R: Wait>(
     worker: &Worker<J, R>,
+    source: Option<usize>,
     domain: &mut BaseDomain<Front<J>>,
     mail: BaseMail<J>,
     out: &mut Outbox<Front<J>>,
@@ -140,7 +149,7 @@ fn take<J: Naming, R: Wait>(
         mail,
         out,
     );
-    pass_on(worker, domain, out);
+    pass_on(worker, source, domain, out);
     if let Some(reply) = reply {
         routes.reply(rt, reply);
     }
@@ -152,6 +161,7 @@ fn take<J: Naming, R: Wait>(
 // Sends what it put out; where a packet is refused the domain stops.
 fn pass_on<J: Naming, R: Wait>(
     worker: &Worker<J, R>,
+    source: Option<usize>,
     domain: &mut BaseDomain<Front<J>>,
     out: &mut Outbox<Front<J>>,
 )
@@ -161,7 +171,7 @@ fn pass_on<J: Naming, R: Wait>(
     ensures clear { IsClear out.new }
     ensures edges { length out.new.edges ≡ length out.old.edges }
 {
-    if send(worker, out).is_err() {
+    if send(worker, source, out).is_err() {
         domain.stop();
     }
 }
@@ -171,20 +181,22 @@ fn pass_on<J: Naming, R: Wait>(
 // after it.
 fn send<J: Naming, R: Wait>(
     worker: &Worker<J, R>,
+    source: Option<usize>,
     out: &mut Outbox<Front<J>>,
 ) -> Result<(), Refused>
     requires reply { out.old.reply ≡ None }
     ensures clear { IsClear out.new }
     ensures edges { length out.new.edges ≡ length out.old.edges }
 {
-    let sent = send_changes(worker, out);
-    send_others(worker, out, sent)
+    let sent = send_changes(worker, source, out);
+    send_rest(worker, source, out, sent)
 }
 
 // Sends the packets to each stage shard to which one carries changes, and leaves none there. Errors:
 // a packet was refused; none is sent after it.
 fn send_changes<J: Naming, R: Wait>(
     worker: &Worker<J, R>,
+    source: Option<usize>,
     out: &mut Outbox<Front<J>>,
 ) -> Result<(), Refused>
     ensures reply { out.new.reply ≡ out.old.reply }
@@ -193,16 +205,17 @@ fn send_changes<J: Naming, R: Wait>(
     let mut sent = Ok(());
     for stage in 0..out.stages() {
         if out.has_changes(stage) {
-            sent = send_to(worker, out, stage, sent);
+            sent = send_to(worker, source, out, stage, sent);
         }
     }
     sent
 }
 
-// Sends the packets to each stage shard, in order, where all went well so far, and leaves the outbox
-// clear. Errors: that of before, or a packet was refused; none is sent after it.
-fn send_others<J: Naming, R: Wait>(
+// Sends the packets that are left to each stage shard, in order, where all went well so far, and
+// leaves the outbox clear. Errors: that of before, or a packet was refused; none is sent after it.
+fn send_rest<J: Naming, R: Wait>(
     worker: &Worker<J, R>,
+    source: Option<usize>,
     out: &mut Outbox<Front<J>>,
     mut sent: Result<(), Refused>,
 ) -> Result<(), Refused>
@@ -211,7 +224,7 @@ fn send_others<J: Naming, R: Wait>(
     ensures edges { length out.new.edges ≡ length out.old.edges }
 {
     for stage in 0..out.stages() {
-        sent = send_to(worker, out, stage, sent);
+        sent = send_to(worker, source, out, stage, sent);
     }
     sent
 }
@@ -220,6 +233,7 @@ fn send_others<J: Naming, R: Wait>(
 // that of before, or a packet was refused; none is sent after it.
 fn send_to<J: Naming, R: Wait>(
     worker: &Worker<J, R>,
+    source: Option<usize>,
     out: &mut Outbox<Front<J>>,
     stage: usize,
     sent: Result<(), Refused>,
@@ -229,9 +243,9 @@ fn send_to<J: Naming, R: Wait>(
     ensures edges { length out.new.edges ≡ length out.old.edges }
     ensures reply { out.new.reply ≡ out.old.reply }
 {
-    let (rt, routes, base) = (worker.rt, worker.routes, worker.place);
+    let (rt, routes) = (worker.rt, worker.routes);
     let mut packets = out.take(worker.alloc, stage);
-    let sent = match routes.sources().iter().position(|own| *own == base) {
+    let sent = match source {
         Some(source) => send_each(sent, &mut packets, |packet| {
             routes.to_stage(rt, source, stage, ToStage::Packet { source, packet })
         }),

@@ -164,7 +164,7 @@ fn send_packets<J: Naming, R: Wait>(
     ensures edges { length out.new.packets ≡ length out.old.packets }
 {
     let sent = send_changes(worker, out);
-    send_others(worker, out, sent)
+    send_rest(worker, out, sent)
 }
 
 // Sends the packets to each view shard to which one carries changes, and leaves none there. Errors: a
@@ -185,9 +185,9 @@ fn send_changes<J: Naming, R: Wait>(
     sent
 }
 
-// Sends the packets to each view shard, in order, where all went well so far, and leaves none. Errors:
-// that of before, or a packet was refused; none is sent after it.
-fn send_others<J: Naming, R: Wait>(
+// Sends the packets that are left to each view shard, in order, where all went well so far, and leaves
+// none. Errors: that of before, or a packet was refused; none is sent after it.
+fn send_rest<J: Naming, R: Wait>(
     worker: &Worker<J, R>,
     out: &mut StageOutbox<Front<J>>,
     mut sent: Result<(), Refused>,

@@ -31,7 +31,8 @@ impl<'r, J: Naming, R> Worker<'r, J, R> {
 }
 
 /// Sends each of these in order, where all went well so far, and leaves the room that they had.
-/// Errors: that of before, or one was refused; none is sent after it.
+/// Errors: that of before, or one was refused; none is sent after it, and what is left the caller
+/// drops.
 pub(crate) fn send_each<P: Drop, F: Fn(P) -> Result<(), Refused>>(
     sent: Result<(), Refused>,
     all: &mut Vec<P>,

@@ -1,6 +1,6 @@
 use Rattle.std.proofs.Common.{arith}
 use Rattle.workers.proofs.Sent.{emptied}
-use Rattle.workers.proofs.base_seat.send_others.Goals as goal
+use Rattle.workers.proofs.base_seat.send_rest.Goals as goal
 
 pub returns-clause-clear : goal.returns-clause-clear
 returns-clause-clear g c =

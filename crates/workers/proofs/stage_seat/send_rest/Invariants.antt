@@ -1,7 +1,7 @@
 use Rattle.std.proofs.Common.{◌≡◌, length}
 use Rattle.packet.specs.Outboxes.{packets_on}
 use Rattle.links.proofs.Waiting.{AreEmpty}
-use Rattle.workers.proofs.stage_seat.send_others.Given as goal
+use Rattle.workers.proofs.stage_seat.send_rest.Given as goal
 
 abbrev pub invariant-loop-reader : goal.invariant-loop-reader
 invariant-loop-reader g l = record {

@@ -1,7 +1,7 @@
 use Rattle.std.proofs.Common.{◌≡◌, None, length}
 use Rattle.packet.specs.Outboxes.{packets_on}
 use Rattle.links.proofs.Waiting.{AreEmpty}
-use Rattle.workers.proofs.base_seat.send_others.Given as goal
+use Rattle.workers.proofs.base_seat.send_rest.Given as goal
 
 abbrev pub invariant-loop-stage : goal.invariant-loop-stage
 invariant-loop-stage g l = record {
