@@ -87,8 +87,9 @@ impl<T: Drop> Queues<T> {
         ensures refused { OnErr result (self.new ≡ self.old) }
         ensures back { IfErr result (λ f. f.value ≡ message) }
     {
+        self.waiting[edge].put(message)?;
         self.newest = edge;
-        self.waiting[edge].put(message)
+        Ok(())
     }
 }
 
