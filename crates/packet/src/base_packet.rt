@@ -1,5 +1,5 @@
 //! What a base shard tells a stage shard.
-ghost use Rattle.std.specs.Prelude.{◌≡◌, ◌≤◌, length};
+ghost use Rattle.std.specs.Prelude.{◌≡◌, ◌==◌, ◌≤◌, length, not};
 ghost use Rattle.std.specs.Option.{option_map};
 ghost use Rattle.packet.specs.{Codes.mark_in, Codes.packet_of, Codes.EndsAt, Truth.IsTrueBase};
 
@@ -97,7 +97,9 @@ impl<F: Fronts> BasePacket<F> {
     }
 
     /// Whether it carries rows that come or go.
-    pub fn has_changes(&self) -> bool {
+    pub fn has_changes(&self) -> bool
+        ensures { result ≡ not (length self.now.changes == 0) }
+    {
         !self.changes.is_empty()
     }
 

@@ -1,5 +1,6 @@
 //! What is put out on edges.
-ghost use Rattle.std.specs.Prelude.{◌≡◌, ◌<◌, [], ◌∷◌, map, length, slice_index_or, slice_set, IfOk, OnOk, OnErr, IsOkUnless};
+ghost use Rattle.std.specs.Prelude.{◌≡◌, ◌<◌, [], ◌∷◌, map, length, slice_get, slice_index_or, slice_set, IfOk, OnOk, OnErr, IsOkUnless};
+ghost use Rattle.std.specs.Option.{option_map};
 ghost use Rattle.packet.specs.{Messages.none_of, Messages.to_one, Outboxes.HaveRoom, Outboxes.no_edge, Outboxes.packets_on, Outboxes.with_one, Outboxes.with_packet, Outboxes.with_packet_on};
 
 use row::refused::Refused;
@@ -127,7 +128,10 @@ impl<P: Drop> Edges<P> {
     }
 
     /// What is first on an edge; `None` where nothing is, or there is no such edge.
-    pub fn first(&self, edge: usize) -> Option<&P> {
+    pub fn first(&self, edge: usize) -> Option<&P>
+        ensures { option_map (λ p. p.now) result
+            ≡ slice_get (slice_index_or self.now edge no_edge).packets 0 }
+    {
         match self.edges.get(edge) {
             Some(edge) => edge.packets.first(),
             None => None,
@@ -232,9 +236,9 @@ impl<P: Drop> Edges<P> {
         self.edges[edge].take(alloc)
     }
 
-    /// Gives an edge the room of a list that was taken from it and has nothing left, for up to eight:
-    /// so edges that are filled and emptied in turn soon take no more memory. What is on the edges
-    /// stays. It takes no memory.
+    /// Gives an edge the room of a list that was taken from it and has nothing left; a list with room
+    /// for more than eight is dropped. So edges that are filled and emptied in turn soon take no more
+    /// memory. What is on the edges stays. It takes no memory.
     pub fn keep_room(&mut self, edge: usize, room: Vec<P>)
         requires { edge < length self.old }
         ensures packets { packets_on self.new ≡ packets_on self.old }

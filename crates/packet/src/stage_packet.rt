@@ -1,5 +1,5 @@
 //! What a stage shard tells a view shard.
-ghost use Rattle.std.specs.Prelude.{◌≡◌, IfOk};
+ghost use Rattle.std.specs.Prelude.{◌≡◌, ◌==◌, length, not, IfOk};
 ghost use Rattle.packet.specs.{Codes.stage_packet_of, Lines.AreOf, Lines.entries_of, Lines.plan_of, Truth.IsTrueStage};
 
 use crate::keyed::Keyed;
@@ -65,8 +65,8 @@ impl<F: Fronts> Parts<F> {
 /// What a stage shard tells a shard of a view, between two lines. By its type it is true: as bags,
 /// the stage shard's part of each key at the one line with the changes of the key is its part at
 /// the other, but for the keys that it evicts, each once and in order; and a piece is the stage
-/// shard's part of its key. The line has a front of each source of its plan. Its parts are one piece
-/// of memory, which stays where it is while the packet goes from hand to hand.
+/// shard's part of its key. The line has a front of each source of its plan. Its parts lie in a box,
+/// which stays where it is while the packet goes from hand to hand.
 pub struct StagePacket<F: Fronts> {
     parts: Box<Parts<F>>,
 }
@@ -126,7 +126,9 @@ impl<F: Fronts> StagePacket<F> {
     }
 
     /// Whether it carries rows that come or go.
-    pub fn has_changes(&self) -> bool {
+    pub fn has_changes(&self) -> bool
+        ensures { result ≡ not (length self.now.changes == 0) }
+    {
         !self.parts.content.changes.is_empty()
     }
 
