@@ -282,7 +282,7 @@ impl<'p, F: Fronts> StageShard<'p, F> {
         ensures done { (d : Done) → IsPut d out.old self.old → OnOk result (IsPut
             (next d (λ s. asks s (datum_of key.now ∷ []))) out.new self.new) }
     {
-        if !self.rows.begin(alloc, key.try_clone(alloc)?)? {
+        if !self.rows.begin(alloc, key)? {
             return Ok(());
         }
         ask_sources(alloc, self.plan, key, out)
