@@ -50,7 +50,7 @@ fn records_of(alloc: Global, changes: Vec<Keyed>) -> Result<Group, AllocError>
 }
 
 /// The records of a packet by key. Errors: memory only. Cost: a look at each key; where they are of
-/// several keys, that of `grouped`. Each record is moved, and none is copied.
+/// one, a copy of that, else what `grouped` costs. Each record is moved, and none is copied.
 pub(crate) fn part_by_key(alloc: Global, changes: Vec<Keyed>) -> Result<Parted, AllocError>
     ensures records { IfOk result (λ p. (d : Datum) → records_at (groups_of p) d
         ≡ changes_at d changes.items) }
