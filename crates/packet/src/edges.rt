@@ -37,8 +37,7 @@ impl<P: Drop> Edge<P> {
         }
     }
 
-    /// Room for one more: for just one where there is nothing on it, since most messages make a
-    /// domain put out one.
+    /// Room for one more: for just one where there is nothing on it, as most messages put out one.
     fn reserve(&mut self) -> Result<(), Refused>
         ensures only { IsOkUnless result Refused.NoMemory }
         ensures room { OnOk result (0 < self.new.room) }
@@ -160,8 +159,7 @@ impl<P: Drop> Edges<P> {
         self.edges[edge].push(packet);
     }
 
-    /// Puts a packet behind the others on an edge. `NoMemory` leaves what is on the edges as it
-    /// was.
+    /// Puts a packet behind the others on an edge. `NoMemory` leaves what is on the edges.
     pub fn append(&mut self, edge: usize, packet: P) -> Result<(), Refused>
         requires edge { edge < length self.old }
         ensures only { IsOkUnless result Refused.NoMemory }
@@ -200,8 +198,7 @@ impl<P: Drop> Edges<P> {
         Ok(())
     }
 
-    /// Puts these packets on one edge, in their order, and nothing on the others. It takes no
-    /// memory.
+    /// Puts these packets on one edge, in order, and nothing on the others. It takes no memory.
     pub fn send_all_to_one(&mut self, edge: usize, packets: Vec<P>)
         requires clear { packets_on self.old ≡ none_of self.old }
         requires edge { edge < length self.old }
@@ -226,8 +223,7 @@ impl<P: Drop> Edges<P> {
         }
     }
 
-    /// All that is on an edge, in order, moved out of it; then nothing is on it. It takes no
-    /// memory.
+    /// All that is on an edge, in order, moved out of it; nothing is left. It takes no memory.
     pub fn take(&mut self, alloc: Global, edge: usize) -> Vec<P>
         requires { edge < length self.old }
         ensures packets { result.items ≡ (slice_index_or self.old edge no_edge).packets }

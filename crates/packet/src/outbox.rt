@@ -27,8 +27,7 @@ impl<F: Fronts> Model for Outbox<F> {
 }
 
 impl<F: Fronts> Outbox<F> {
-    /// An outbox with an edge to each of `stages` stage shards, and nothing in it. Errors: memory
-    /// only.
+    /// An empty outbox with an edge to each of `stages` stage shards. Errors: memory only.
     pub fn new(alloc: Global, stages: usize) -> Result<Outbox<F>, AllocError>
         ensures clear { IfOk result (λ o. IsClear o) }
         ensures edges { IfOk result (λ o. length o.edges ≡ stages) }
@@ -55,8 +54,7 @@ impl<F: Fronts> Outbox<F> {
         self.edges.reserve()
     }
 
-    /// Puts a packet on the edge to one stage shard, and nothing on the others. `NoMemory` leaves
-    /// all edges clear.
+    /// Puts a packet on the edge to one stage shard alone. `NoMemory` leaves all edges clear.
     pub fn send_to_one(&mut self, stage: usize, packet: BasePacket<F>) -> Result<(), Refused>
         requires clear { packets_on self.old.edges ≡ none_of self.old.edges }
         requires stage { stage < length self.old.edges }

@@ -92,8 +92,7 @@ impl<F: Fronts> Model for StagePacket<F> {
 }
 
 impl<F: Fronts> StagePacket<F> {
-    /// A packet that starts at the first `from` entries of each of the line's logs. Errors: memory
-    /// only.
+    /// A packet that starts at the first `from` entries of each log of its line. Errors: memory.
     pub fn new(
         alloc: Global,
         stage: usize,
