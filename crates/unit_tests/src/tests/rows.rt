@@ -13,10 +13,12 @@ use std::alloc::{AllocError, Global};
 use std::cmp::Ordering;
 use std::test::Fail;
 
-const SHARDS: [(Cell, usize, usize); 5] = [
+const SHARDS: [(Cell, usize, usize); 7] = [
     (Int(-3), 8, 5),
     (Int(-8), 8, 0),
     (Int(11), 8, 3),
+    (Int(18446744073709551615), 10, 5),
+    (Int(18446744073709551616), 10, 6),
     (Text("ab"), 2, 1),
     (Text(""), 2, 0),
 ];
