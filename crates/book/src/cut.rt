@@ -109,6 +109,14 @@ impl<J: Naming> Cut<J> {
         &self.lengths
     }
 
+    /// Its lengths alone.
+    pub fn into_lengths(self) -> Lengths
+        ensures { result ≡ self.lengths }
+    {
+        let Cut { lengths, .. } = self;
+        lengths
+    }
+
     /// A copy. Errors: memory only. Cost: that of its lengths.
     pub fn try_clone(&self, alloc: Global) -> Result<Cut<J>, AllocError>
         ensures { IfOk result (λ c. c ≡ self.now) }

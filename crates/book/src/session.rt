@@ -3,7 +3,7 @@ ghost use Rattle.std.specs.Prelude.{◌≡◌, ◌+◌, ◌<◌, ◌^◌, length
 ghost use mathlib.Core.List.{IsPrefix};
 ghost use Rattle.row.specs.{Bags.Each, Cells.datum_of};
 ghost use Rattle.plan.specs.Layouts.{view_at};
-ghost use Rattle.model.specs.{Cuts.IsAtMost, Histories.floor_at, Histories.view_shard, Legal.IsOwn, Legal.IsPast, Legal.IsLegal, Legal.EachShard, Queries.answer as answer_of, Tables.places_of};
+ghost use Rattle.model.specs.{Cuts.IsAtMost, Histories.floor_at, Histories.view_shard, Legal.IsOwn, Legal.IsPast, Legal.IsLegal, Legal.EachShard, Queries.answer as answer_of, Tables.HasRoom, Tables.places_of};
 ghost use Rattle.book.specs.{Pages.IsLogOf, Pages.history_of, Sessions.fronts, Sessions.IsEnded, Sessions.IsOwnAsk, Sessions.IsOwnDone, Sessions.IsRead, Sessions.IsStolen};
 
 use crate::book::{Book, Moved};
@@ -88,7 +88,7 @@ pub struct Fencing<'a> {
 
 impl<'a> Plain<Fencing<'a>, LogPage, u64> for Add {
     ghost use Rattle.std.specs.Prelude.{None};
-    ghost use Rattle.model.specs.{Histories.fence, Tables.places_of};
+    ghost use Rattle.model.specs.{Histories.fence, Tables.HasRoom, Tables.places_of};
     ghost use Rattle.book.specs.Pages.{adds};
 
     ghost ask = { λ f. adds (fence f.session (places_of f.own.now.items) f.floors.now) };
@@ -160,8 +160,25 @@ impl<J: Naming> SessionWord<J> {
         try_add::<J, X, M>(book, word, self.answered, &mut self.seen, asked)
     }
 
-    /// Answers a read over a cut. Errors: where the session's word was seen to have moved; then its
-    /// floors and its count stay. Cost: one exchange of the session's word.
+    /// Room for a cut as the floor at a shard of a view: none where the lengths of the floor can be
+    /// overwritten. Errors: memory only.
+    pub fn room_for(
+        &self,
+        alloc: Global,
+        view: usize,
+        shard: usize,
+        cut: &Lengths,
+    ) -> Result<Option<Lengths>, AllocError>
+        requires view { view < length J.plan.views }
+        requires within { shard < (view_at J.plan view).shards }
+        ensures { IfOk result (HasRoom (floor_at self.now.floors view shard) cut.now) }
+    {
+        self.floors.room_for(alloc, view, shard, cut)
+    }
+
+    /// Answers a read over a cut, which is then the floor there, in the room that there is for it.
+    /// Errors: where the session's word was seen to have moved; then its floors and its count stay.
+    /// Takes no memory. Cost: one exchange of the session's word, and a copy of the cut.
     pub fn answer(
         &mut self,
         book: &Book<J>,
@@ -169,18 +186,20 @@ impl<J: Naming> SessionWord<J> {
         shard: usize,
         key: &Value,
         rows: &[Row],
-        cut: Cut<J>,
+        cut: &Cut<J>,
+        room: Option<Lengths>,
     ) -> Result<(), Moved>
         requires view { view < length J.plan.views }
         requires shard { shard ≡ view_shard J.plan view (datum_of key.now) }
         requires within { shard < (view_at J.plan view).shards }
-        requires floor { IsAtMost (floor_at self.old.floors view shard) cut.lengths }
-        requires rows { rows.now ≡ answer_of J.plan (fronts J.plan cut) view
+        requires floor { IsAtMost (floor_at self.old.floors view shard) cut.now.lengths }
+        requires rows { rows.now ≡ answer_of J.plan (fronts J.plan cut.now) view
             (datum_of key.now) }
-        requires room { self.old.answered + 1 < 2 ^ 64 }
-        ensures others { IsPrefix cut.seen self.new.seen }
+        requires room { HasRoom (floor_at self.old.floors view shard) cut.now.lengths room }
+        requires answers { self.old.answered + 1 < 2 ^ 64 }
+        ensures others { IsPrefix cut.now.seen self.new.seen }
         ensures answered { OnOk result (IsRead J.plan self.old view shard (datum_of key.now)
-            rows.now cut.lengths self.new) }
+            rows.now cut.now.lengths self.new) }
         ensures stolen { OnErr result (IsStolen J.plan self.old self.new) }
     {
         learn::<J>(&mut self.seen, &cut.seen);
@@ -193,7 +212,7 @@ impl<J: Naming> SessionWord<J> {
         };
         self.add::<Reading, Add>(book, &asked)?;
         self.answered += 1;
-        self.floors.set(view, shard, cut.lengths);
+        self.floors.copy(view, shard, &cut.lengths, room);
         Ok(())
     }
 

@@ -13,3 +13,4 @@ pub mod Zeros
 pub mod Samples
 pub mod MoreSamples
 pub mod LegalSamples
+mod Copies

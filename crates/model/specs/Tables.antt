@@ -1,5 +1,5 @@
 -- Cuts and floors as tables: the places that they have, and one of them set.
-use Rattle.std.specs.Prelude.{◌≡◌, ℕ, ◌<◌, List, [], map, length, replicate, slice_index_or, slice_set}
+use Rattle.std.specs.Prelude.{◌≡◌, ℕ, ◌<◌, List, [], map, length, replicate, slice_index_or, slice_set, Option, None, Some}
 use Rattle.plan.specs.Layouts.{ViewLayout, Layout, view_at}
 use Rattle.model.specs.Logs.{Change}
 use Rattle.model.specs.Queries.{Line}
@@ -14,6 +14,12 @@ pub record IsTable (p : Layout) (floors : Floors) : Type 0 where
 -- the floors after a read of shard j of view v
 abbrev pub with_floor : Floors → ℕ → ℕ → Lengths → Floors
 with_floor floors v j cut = slice_set floors v (slice_set (slice_index_or floors v []) j cut)
+
+-- there is room for a cut: of a floor with as many lengths its own place, of any other new memory,
+-- which has the cut
+abbrev pub HasRoom : Lengths → Lengths → Option Lengths → Type 0
+HasRoom floor cut None = map length floor ≡ map length cut
+HasRoom floor cut (Some room) = room ≡ cut
 
 -- one length, and one front, set
 abbrev pub with_length : Lengths → ℕ → ℕ → ℕ → Lengths

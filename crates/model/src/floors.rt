@@ -1,6 +1,6 @@
 //! Floors of a session.
 ghost use Rattle.std.specs.Prelude.{◌≡◌, ◌<◌, [], length, map, slice_index_or, replicate, IfOk, ℕ};
-ghost use Rattle.model.specs.{Histories.floor_at, Tables.with_floor, Tables.even_floors, Tables.IsTable};
+ghost use Rattle.model.specs.{Histories.floor_at, Tables.HasRoom, Tables.with_floor, Tables.even_floors, Tables.IsTable};
 
 use crate::lengths::Lengths;
 use plan::plan::Plan;
@@ -65,6 +65,39 @@ impl Floors {
             rows.push(even_row(alloc, plan.view(view).shards(), plan.stages(), line)?)?;
         }
         Ok(Floors { rows })
+    }
+
+    /// Room for a cut as the floor at a shard of a view: none where the floor has as many lengths, so
+    /// that they can be overwritten, else a copy of the cut. Errors: memory only.
+    pub fn room_for(
+        &self,
+        alloc: Global,
+        view: usize,
+        shard: usize,
+        cut: &Lengths,
+    ) -> Result<Option<Lengths>, AllocError>
+        requires view { view < length self.now }
+        requires shard { shard < length (slice_index_or self.now view []) }
+        ensures { IfOk result (HasRoom (floor_at self.now view shard) cut.now) }
+    {
+        if self.rows[view][shard].has_room_for(cut) {
+            Ok(None)
+        } else {
+            Ok(Some(cut.try_clone(alloc)?))
+        }
+    }
+
+    /// Sets the floor at a shard of a view, in the room that there is for the cut. Takes no memory.
+    pub fn copy(&mut self, view: usize, shard: usize, cut: &Lengths, room: Option<Lengths>)
+        requires view { view < length self.old }
+        requires shard { shard < length (slice_index_or self.old view []) }
+        requires room { HasRoom (floor_at self.old view shard) cut.now room }
+        ensures { self.new ≡ with_floor self.old view shard cut.now }
+    {
+        match room {
+            Some(room) => self.set(view, shard, room),
+            None => self.rows[view][shard].overwrite(cut),
+        }
     }
 
     /// Sets the floor at a shard of a view.

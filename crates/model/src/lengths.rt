@@ -1,5 +1,5 @@
 //! Lengths of the sources' logs, one for each stage shard and source.
-ghost use Rattle.std.specs.Prelude.{◌≡◌, ◌<◌, [], ◌∷◌, ◌++◌, length, map, replicate, slice_index_or, IfOk, OnOk, OnErr};
+ghost use Rattle.std.specs.Prelude.{◌≡◌, ◌<◌, [], ◌∷◌, ◌++◌, length, map, replicate, slice_index_or, IfOk, IsTrue, OnOk, OnErr};
 ghost use Rattle.model.specs.{Histories.len_at, Tables.with_length};
 
 use smallvec::SmallVec;
@@ -85,6 +85,34 @@ impl Lengths {
             lengths.push_line(alloc, line.as_slice())?;
         }
         Ok(lengths)
+    }
+
+    /// Whether it has as many lengths as the other for each stage shard, and so room for the other's
+    /// in their place. Takes no memory. Constant time for each stage shard.
+    pub fn has_room_for(&self, other: &Lengths) -> bool
+        ensures { IsTrue result → map length self.now ≡ map length other.now }
+    {
+        if self.stages() != other.stages() {
+            return false;
+        }
+        for stage in 0..self.stages() {
+            if self.line(stage).len() != other.line(stage).len() {
+                return false;
+            }
+        }
+        true
+    }
+
+    /// Takes the other's lengths in the place of its own. Takes no memory.
+    pub fn overwrite(&mut self, other: &Lengths)
+        requires { map length self.old ≡ map length other.now }
+        ensures { self.new ≡ other.now }
+    {
+        for stage in 0..other.stages() {
+            self.lines[stage]
+                .as_mut_slice()
+                .copy_from_slice(other.line(stage));
+        }
     }
 
     /// The length of a source at a stage shard, 0 where there is none.

@@ -56,7 +56,7 @@ impl<J: Naming> Session<J> {
     /// key column; then `NoMemory`, or `Stolen` where its word was moved by another. A refused read
     /// leaves the floors and what was accepted, and but for `Stolen` what was seen. Cost: a look at
     /// each view's name, one look-up, a step on the count of the key's rows, and two copies of the
-    /// cut.
+    /// cut, one of them over the floor.
     pub fn try_read(&mut self, alloc: Global, view: &str, key: &Value) -> Result<Found, Refused>
         ensures { Tries J.plan J.sessions self.old self.new view.now (datum_of key.now) result }
     {
@@ -92,13 +92,14 @@ impl<J: Naming> Session<J> {
             (IsMissed J.plan self.old self.new view (datum_of key.now))) }
         ensures refused { IfErr result (λ e. IsUnread J.plan self.old self.new e) }
     {
-        let found = match self.find(alloc, view, key) {
+        let shard = key_shard(self.plan(), view, key);
+        let found = match self.find(alloc, view, shard, key) {
             Ok(found) => found,
             Err(refused) => return Err(refused),
         };
         match found {
             Look::Miss => Ok(Found::Miss),
-            Look::Hit(rows, cut) => match self.answer(alloc, view, key, rows, cut) {
+            Look::Hit(rows, cut) => match self.answer(alloc, view, shard, key, rows, cut) {
                 Ok(answer) => Ok(Found::Hit(answer)),
                 Err(refused) => Err(refused),
             },
@@ -106,8 +107,16 @@ impl<J: Naming> Session<J> {
     }
 
     // Looks the key up in what is shown of its view shard.
-    fn find(&mut self, alloc: Global, view: usize, key: &Value) -> Result<Look<J>, Refused>
+    fn find(
+        &mut self,
+        alloc: Global,
+        view: usize,
+        shard: usize,
+        key: &Value,
+    ) -> Result<Look<J>, Refused>
         requires view { view < length J.plan.views }
+        requires shard { shard ≡ view_shard J.plan view (datum_of key.now) }
+        requires range { shard < (view_at J.plan view).shards }
         ensures looked { HasLooked self.old self.new }
         ensures hit { IfOk result (OnShown (λ rows cut.
             Finds J.plan self.new.shown view (datum_of key.now) rows cut)) }
@@ -115,7 +124,7 @@ impl<J: Naming> Session<J> {
             (IsHidden J.plan self.new.shown view (datum_of key.now))) }
         ensures only { IfErr result (λ e. e ≡ Refused.NoMemory) }
     {
-        let place = key_place(&self.routes, view, key);
+        let place = shard_place(&self.routes, view, shard);
         self.sights.look(alloc, place, view, key)
     }
 
@@ -124,27 +133,33 @@ impl<J: Naming> Session<J> {
         &mut self,
         alloc: Global,
         view: usize,
+        shard: usize,
         key: &Value,
         rows: SharedRows,
         cut: Cut<J>,
     ) -> Result<Answer, Refused>
         requires view { view < length J.plan.views }
+        requires shard { shard ≡ view_shard J.plan view (datum_of key.now) }
+        requires range { shard < (view_at J.plan view).shards }
         requires number { self.old.number < last_number }
         requires found { Finds J.plan self.old.shown view (datum_of key.now) rows cut }
         ensures read { IfOk result (λ a.
             IsRead J.plan self.old self.new view (datum_of key.now) a.rows a.cut) }
         ensures refused { IfErr result (λ e. IsUnread J.plan self.old self.new e) }
     {
-        let lengths = cut.lengths().try_clone(alloc)?;
-        let shard = key_shard(self.plan(), view, key);
+        let room = self.word.room_for(alloc, view, shard, cut.lengths())?;
         self.number += 1;
         self.word.learn(&self.seen);
+        let book = self.routes.book();
         let answered = self
             .word
-            .answer(self.routes.book(), view, shard, key, rows.rows(), cut);
+            .answer(book, view, shard, key, rows.rows(), &cut, room);
         self.seen = self.word.part();
         match answered {
-            Ok(()) => Ok(Answer { rows, cut: lengths }),
+            Ok(()) => {
+                let cut = cut.into_lengths();
+                Ok(Answer { rows, cut })
+            }
             Err(_) => {
                 self.stolen = true;
                 Err(Refused::Stolen)
@@ -263,6 +278,18 @@ pub(crate) fn key_place<J: Naming>(routes: &Routes<J>, view: usize, key: &Value)
     }) }
 {
     let shard = key_shard(routes.plan(), view, key);
+    shard_place(routes, view, shard)
+}
+
+// The place of a view shard among all of them.
+fn shard_place<J: Naming>(routes: &Routes<J>, view: usize, shard: usize) -> usize
+    requires view { view < length J.plan.views }
+    requires shard { shard < (view_at J.plan view).shards }
+    ensures { slice_get (readers J.plan) result ≡ Some (record {
+      view = view;
+      shard = shard;
+    }) }
+{
     match place_of(routes.readers(), view, shard) {
         Some(place) => place,
         None => unreachable!(),

@@ -1,4 +1,5 @@
-//! Cuts as they are printed.
+//! Cuts as they are printed, and as floors take them.
+use model::floors::Floors;
 use model::lengths::Lengths;
 use std::alloc::{AllocError, Global};
 use std::test::Fail;
@@ -22,6 +23,54 @@ fn cuts_are_printed(rt: HostRuntime) -> Result<(), Fail> {
             printed(rt.alloc(), stages, line)?.as_str() == text,
             "{text}"
         );
+    }
+    Ok(())
+}
+
+/// The lengths at each stage shard.
+type CutOf = &'static [&'static [u64]];
+
+/// A floor, a cut that it takes, whether that is in its place, and the floor after it.
+const TAKEN: [(CutOf, CutOf, bool, &str); 6] = [
+    (&[&[1, 2], &[3, 4]], &[&[5, 6], &[7, 8]], true, "5,6/7,8"),
+    (
+        &[&[1, 2, 3, 4, 5]],
+        &[&[6, 7, 8, 9, 10]],
+        true,
+        "6,7,8,9,10",
+    ),
+    (&[], &[&[5, 6], &[7, 8]], false, "5,6/7,8"),
+    (&[&[1]], &[&[1], &[2]], false, "1/2"),
+    (&[&[1, 2]], &[&[1]], false, "1"),
+    (&[&[1, 2]], &[&[6, 7, 8, 9, 10]], false, "6,7,8,9,10"),
+];
+
+fn cut(alloc: Global, of: CutOf) -> Result<Lengths, AllocError> {
+    let mut cut = Lengths::empty(alloc);
+    for lengths in of {
+        cut.push_line(alloc, lengths)?;
+    }
+    Ok(cut)
+}
+
+// The floor after the cut, and whether it took that in its place.
+fn taken(alloc: Global, floor: CutOf, of: CutOf) -> Result<(String, bool), AllocError> {
+    let row = vec![in alloc; cut(alloc, floor)?]?;
+    let mut floors = Floors::new(vec![in alloc; row]?);
+    let cut = cut(alloc, of)?;
+    let room = floors.room_for(alloc, 0, 0, &cut)?;
+    let is_in_place = room.is_none();
+    floors.copy(0, 0, &cut, room);
+    let none = Lengths::empty(alloc);
+    Ok((floors.floor_at(0, 0, &none).to_string(alloc)?, is_in_place))
+}
+
+#[test]
+fn floors_take_cuts(rt: HostRuntime) -> Result<(), Fail> {
+    for (floor, of, in_place, text) in TAKEN {
+        let (found, is_in_place) = taken(rt.alloc(), floor, of)?;
+        assert!(rt; found.as_str() == text, "{found}, not {text}");
+        assert!(rt; is_in_place == in_place, "{text}");
     }
     Ok(())
 }

@@ -34,7 +34,7 @@ invariant_of-self-2 g c =
     let stays = rw (sym c.self-2.view_is) at c.add.ensures.stays in
     let done = rw (sym c.self-2.view_is) at c.in_ok-add.ensures.done in
     let read = read_told p n c.learn.new.seen.log c.self-2.inside.seen.log _ _ _ c.args.view c.args.shard _ _ c.cut.inside.lengths q.shard x q.view q.within (done _ refl) in
-    (i.0, i.1, rw c.set.ensures (subst (λ (y : SessionView). IsSession p n (record y { answered = y.answered + 1; floors = with_floor y.floors c.args.view c.args.shard c.cut.inside.lengths })) (sym stays) read))
+    (i.0, i.1, rw c.copy.ensures (subst (λ (y : SessionView). IsSession p n (record y { answered = y.answered + 1; floors = with_floor y.floors c.args.view c.args.shard c.cut.inside.lengths })) (sym stays) read))
 
 pub returns-clause-answered : goal.returns-clause-answered
 returns-clause-answered g c =
@@ -45,4 +45,4 @@ returns-clause-answered g c =
     let done = rw (sym c.self-2.view_is) at c.in_ok-add.ensures.done in
     let after = with_floor me.floors c.args.view c.args.shard c.cut.inside.lengths in
     let all = answered p n me.seen.log c.learn.new.seen.log c.self-2.inside.seen.log me.number me.answered me.floors after _ c.self.invariant.2 c.learn.ensures.grown (done _ refl) in
-    rw (c.set.ensures, ← c.self.view_is, ← c.cut.view_is) (subst (λ (y : SessionView). IsRead p (session_at me.number me.answered me.floors me.seen.log) c.args.view c.args.shard (datum_of c.args.key.now) c.args.rows.now c.cut.inside.lengths (record y { answered = y.answered + 1; floors = with_floor y.floors c.args.view c.args.shard c.cut.inside.lengths })) (sym stays) all)
+    rw (c.copy.ensures, ← c.self.view_is, ← c.cut.view_is) (subst (λ (y : SessionView). IsRead p (session_at me.number me.answered me.floors me.seen.log) c.args.view c.args.shard (datum_of c.args.key.now) c.args.rows.now c.cut.inside.lengths (record y { answered = y.answered + 1; floors = with_floor y.floors c.args.view c.args.shard c.cut.inside.lengths })) (sym stays) all)

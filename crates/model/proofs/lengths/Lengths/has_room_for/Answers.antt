@@ -1,0 +1,13 @@
+use Rattle.std.proofs.Common.{◌<◌, ◌≡◌, [], length, map, slice_index_or, sym, ◌∙◌, arith, rules}
+use Rattle.std.proofs.lemmas.List.{get_or-map, length-map, take_more_same}
+use Rattle.model.proofs.lengths.Lengths.has_room_for.Goals as goal
+
+pub loop-stage-preserved : goal.loop-stage-preserved
+loop-stage-preserved c =
+    let own = c.args.self.now in
+    let other = c.args.other.now in
+    let stage = c.loop-stage.stage in
+    let in_own : stage < length own = search rules in
+    let in_other : stage < length other = search rules in
+    let alike : length (slice_index_or own stage []) ≡ length (slice_index_or other stage []) = search rules in
+    take_more_same (map length own) (map length other) stage 0 (omega (arith, in_own, length-map own length)) (omega (arith, in_other, length-map other length)) c.loop-stage.invariant (get_or-map length own stage [] 0 in_own ∙ (alike ∙ sym (get_or-map length other stage [] 0 in_other)))
