@@ -83,6 +83,7 @@ impl<J: Naming> Session<J> {
     }
 
     // Looks the key up, and answers with a hit.
+    #[inline(always)]
     fn look(&mut self, alloc: Global, view: usize, key: &Value) -> Result<Found, Refused>
         requires view { view < length J.plan.views }
         requires number { self.old.number < last_number }
@@ -107,6 +108,7 @@ impl<J: Naming> Session<J> {
     }
 
     // Looks the key up in what is shown of its view shard.
+    #[inline(always)]
     fn find(
         &mut self,
         alloc: Global,
@@ -129,6 +131,7 @@ impl<J: Naming> Session<J> {
     }
 
     // Answers with what was looked at.
+    #[inline(always)]
     fn answer(
         &mut self,
         alloc: Global,

@@ -52,6 +52,7 @@ impl<J: Naming> Sights<J> {
 
     /// Looks a key up in what is shown of its view shard. Errors: `NoMemory`; it may then have seen
     /// more.
+    #[inline(always)]
     pub(crate) fn look(
         &mut self,
         alloc: Global,

@@ -92,6 +92,7 @@ impl<J: Naming> ShownReader<J> {
     /// one look-up by hash, a step on a count of the key's rows, and a copy of the cut. Where the
     /// rows have changed since the key was filled all readers step on that count, else those of its
     /// stripe.
+    #[inline(always)]
     pub fn look(&mut self, alloc: Global, key: &Value) -> Result<Look<J>, Refused>
         ensures later { IsLater self.old self.new }
         ensures truth { IfOk result (λ _. IsTrue J.plan self.new) }
@@ -137,6 +138,7 @@ impl<J: Naming> ShownReader<J> {
 }
 
 // The entry of the key in what is shown.
+#[inline(always)]
 fn look_by<J: Naming>(
     reader: Reader<Shown<J>, Sight, Published>,
     alloc: Global,
@@ -209,6 +211,7 @@ fn asked_by<J: Naming>(
 }
 
 // The key's entry and a copy of the cut.
+#[inline(always)]
 fn found<J: Naming>(
     alloc: Global,
     shown: &Shown<J>,
