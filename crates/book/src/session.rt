@@ -1,5 +1,5 @@
 //! The word of a session.
-ghost use Rattle.std.specs.Prelude.{◌≡◌, ◌+◌, ◌<◌, ◌^◌, length, None, OnErr, OnOk, IfOk, ℕ, []};
+ghost use Rattle.std.specs.Prelude.{◌≡◌, ◌+◌, ◌<◌, ◌^◌, length, map, None, OnErr, OnOk, IfOk, ℕ, []};
 ghost use mathlib.Core.List.{IsPrefix};
 ghost use Rattle.row.specs.{Bags.Each, Cells.datum_of};
 ghost use Rattle.plan.specs.Layouts.{view_at};
@@ -88,7 +88,7 @@ pub struct Fencing<'a> {
 
 impl<'a> Plain<Fencing<'a>, LogPage, u64> for Add {
     ghost use Rattle.std.specs.Prelude.{None};
-    ghost use Rattle.model.specs.{Histories.fence, Tables.HasRoom, Tables.places_of};
+    ghost use Rattle.model.specs.{Histories.fence, Tables.places_of};
     ghost use Rattle.book.specs.Pages.{adds};
 
     ghost ask = { λ f. adds (fence f.session (places_of f.own.now.items) f.floors.now) };
@@ -160,8 +160,8 @@ impl<J: Naming> SessionWord<J> {
         try_add::<J, X, M>(book, word, self.answered, &mut self.seen, asked)
     }
 
-    /// Room for a cut as the floor at a shard of a view: none where the lengths of the floor can be
-    /// overwritten. Errors: memory only.
+    /// Room for a cut as the floor at a shard of a view: none where the floor has as many lengths for
+    /// each stage shard, which can be overwritten, else a copy of the cut. Errors: memory only.
     pub fn room_for(
         &self,
         alloc: Global,
@@ -171,7 +171,9 @@ impl<J: Naming> SessionWord<J> {
     ) -> Result<Option<Lengths>, AllocError>
         requires view { view < length J.plan.views }
         requires within { shard < (view_at J.plan view).shards }
-        ensures { IfOk result (HasRoom (floor_at self.now.floors view shard) cut.now) }
+        ensures room { IfOk result (HasRoom (floor_at self.now.floors view shard) cut.now) }
+        ensures in_place { map length (floor_at self.now.floors view shard) ≡ map length cut.now →
+            IfOk result (λ r. r ≡ None) }
     {
         self.floors.room_for(alloc, view, shard, cut)
     }

@@ -15,8 +15,8 @@ pub record IsTable (p : Layout) (floors : Floors) : Type 0 where
 abbrev pub with_floor : Floors → ℕ → ℕ → Lengths → Floors
 with_floor floors v j cut = slice_set floors v (slice_set (slice_index_or floors v []) j cut)
 
--- there is room for a cut: of a floor with as many lengths its own place, of any other new memory,
--- which has the cut
+-- what there is to set a floor to a cut: nothing, only where the floor has as many lengths for each
+-- stage shard, or the cut itself
 abbrev pub HasRoom : Lengths → Lengths → Option Lengths → Type 0
 HasRoom floor cut None = map length floor ≡ map length cut
 HasRoom floor cut (Some room) = room ≡ cut

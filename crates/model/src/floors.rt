@@ -1,5 +1,5 @@
 //! Floors of a session.
-ghost use Rattle.std.specs.Prelude.{◌≡◌, ◌<◌, [], length, map, slice_index_or, replicate, IfOk, ℕ};
+ghost use Rattle.std.specs.Prelude.{◌≡◌, ◌<◌, [], length, map, slice_index_or, replicate, IfOk, None, ℕ};
 ghost use Rattle.model.specs.{Histories.floor_at, Tables.HasRoom, Tables.with_floor, Tables.even_floors, Tables.IsTable};
 
 use crate::lengths::Lengths;
@@ -67,8 +67,8 @@ impl Floors {
         Ok(Floors { rows })
     }
 
-    /// Room for a cut as the floor at a shard of a view: none where the floor has as many lengths, so
-    /// that they can be overwritten, else a copy of the cut. Errors: memory only.
+    /// Room for a cut as the floor at a shard of a view: none where the floor has as many lengths for
+    /// each stage shard, so that they can be overwritten, else a copy of the cut. Errors: memory only.
     pub fn room_for(
         &self,
         alloc: Global,
@@ -78,7 +78,9 @@ impl Floors {
     ) -> Result<Option<Lengths>, AllocError>
         requires view { view < length self.now }
         requires shard { shard < length (slice_index_or self.now view []) }
-        ensures { IfOk result (HasRoom (floor_at self.now view shard) cut.now) }
+        ensures room { IfOk result (HasRoom (floor_at self.now view shard) cut.now) }
+        ensures in_place { map length (floor_at self.now view shard) ≡ map length cut.now →
+            IfOk result (λ r. r ≡ None) }
     {
         if self.rows[view][shard].has_room_for(cut) {
             Ok(None)

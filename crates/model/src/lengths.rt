@@ -1,5 +1,5 @@
 //! Lengths of the sources' logs, one for each stage shard and source.
-ghost use Rattle.std.specs.Prelude.{◌≡◌, ◌<◌, [], ◌∷◌, ◌++◌, length, map, replicate, slice_index_or, IfOk, IsTrue, OnOk, OnErr};
+ghost use Rattle.std.specs.Prelude.{◌≡◌, ◌↔◌, ◌<◌, [], ◌∷◌, ◌++◌, length, map, replicate, slice_index_or, IfOk, IsTrue, OnOk, OnErr};
 ghost use Rattle.model.specs.{Histories.len_at, Tables.with_length};
 
 use smallvec::SmallVec;
@@ -90,7 +90,7 @@ impl Lengths {
     /// Whether it has as many lengths as the other for each stage shard, and so room for the other's
     /// in their place. Takes no memory. Constant time for each stage shard.
     pub fn has_room_for(&self, other: &Lengths) -> bool
-        ensures { IsTrue result → map length self.now ≡ map length other.now }
+        ensures { IsTrue result ↔ (map length self.now ≡ map length other.now) }
     {
         if self.stages() != other.stages() {
             return false;

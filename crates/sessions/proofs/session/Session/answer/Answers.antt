@@ -19,7 +19,7 @@ answer-answered-requires-clause-floor g c =
     rw (ap (λ (x : SessionView). x.floors) c.learn.ensures.stays, c.requires.shard, found.cut) (floor_below p _ c.args.view (view_shard p c.args.view (datum_of c.args.key.now)) found.sight c.self.invariant.2 found.is)
 
 pub answer-answered-requires-clause-room : goal.answer-answered-requires-clause-room
-answer-answered-requires-clause-room g c = rw (ap (λ (x : SessionView). x.floors) c.learn.ensures.stays, ← c.lengths.ensures.lengths) c.in_ok-room.ensures
+answer-answered-requires-clause-room g c = rw (ap (λ (x : SessionView). x.floors) c.learn.ensures.stays, ← c.lengths.ensures.lengths) c.in_ok-room.ensures.room
 
 pub returns-in_err-room-clause-refused : goal.returns-in_err-room-clause-refused
 returns-in_err-room-clause-refused g c =
