@@ -4,8 +4,8 @@ use crate::texts::Texts;
 use plan::plan::Plan;
 use recipe::recipe::from_bytes;
 use row::refused::Refused;
-use script::script::{Call, read_script};
-use std::alloc::Global;
+use script::script::{ScriptCall, read_script};
+use std::alloc::{AllocError, Global};
 use std::thread::{self, Threads};
 
 /// The plan of the recipe of this name. Errors: the file cannot be read, memory, or the first fault
@@ -15,45 +15,51 @@ pub fn plan_named<T: Texts>(alloc: Global, recipe: &str, texts: &mut T) -> Resul
     Ok(from_bytes(alloc, text.as_slice())?)
 }
 
-/// The calls of the script of this name. Errors: the file cannot be read, memory, or the first line
-/// that is no call.
-pub fn calls_named<T: Texts>(
-    alloc: Global,
-    script: &str,
-    texts: &mut T,
-) -> Result<Vec<Call>, Fault> {
-    let text = texts.text(script)?;
-    Ok(read_script(alloc, text.as_slice())?)
+/// The texts of the scripts of these names up to the first that cannot be read, and the refusal of
+/// that one.
+#[derive(Drop)]
+pub struct ScriptTexts {
+    pub texts: Vec<Vec<u8>>,
+    pub unread: Result<(), Refused>,
 }
 
-/// The calls of the scripts of these names, each read by a thread of its own. Errors: that of the
-/// first script in order which cannot be read, or has a line at fault.
-pub fn calls_of_all<R: Threads + Sync, T: Texts>(
-    rt: &R,
+/// Reads the scripts of these names, up to the first that cannot be read. Errors: memory.
+pub fn texts_of_all<T: Texts>(
     alloc: Global,
     scripts: &[String],
     texts: &mut T,
-) -> Result<Vec<Vec<Call>>, Fault> {
-    let mut bytes = Vec::new(alloc);
-    let mut unread = Ok(());
+) -> Result<ScriptTexts, AllocError> {
+    let mut read = ScriptTexts {
+        texts: Vec::with_capacity(alloc, scripts.len())?,
+        unread: Ok(()),
+    };
     for script in scripts {
         match texts.text(script.as_str()) {
-            Ok(text) => bytes.push(text).map_err(|_| Refused::NoMemory)?,
+            Ok(text) => read.texts.push(text)?,
             Err(refused) => {
-                unread = Err(refused);
+                read.unread = Err(refused);
                 break;
             }
         }
     }
-    let read = thread::map_vec(
-        rt,
-        bytes,
-        &|text: Vec<u8>| read_script(alloc, text.as_slice()),
-    )?;
+    Ok(read)
+}
+
+/// The calls of the texts of scripts, each read by a thread of its own where one can be made.
+/// Errors: memory, or the first line at fault of the first text in order that has one.
+pub fn calls_of_all<'t, R: Threads + Sync>(
+    rt: &R,
+    alloc: Global,
+    texts: &'t [Vec<u8>],
+) -> Result<Vec<Vec<ScriptCall<'t>>>, Fault> {
+    let mut unread = Vec::with_capacity(alloc, texts.len())?;
+    for text in texts {
+        unread.push(text.as_slice()).map_err(|_| Refused::NoMemory)?;
+    }
+    let read = thread::map_vec(rt, unread, &|text| read_script(alloc, text))?;
     let mut all = Vec::new(alloc);
     for calls in read {
         all.push(calls?).map_err(|_| Refused::NoMemory)?;
     }
-    unread?;
     Ok(all)
 }

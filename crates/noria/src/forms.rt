@@ -1,9 +1,10 @@
 //! The forms of the program: each reads and checks what its files have, and then runs it.
 use crate::fault::Fault;
-use crate::files::{calls_named, calls_of_all, plan_named};
+use crate::files::{calls_of_all, plan_named, texts_of_all};
 use crate::texts::Texts;
 use replays::replay::replay_text;
 use runner::play::{Play, start};
+use script::script::read_script;
 use std::alloc::Global;
 use std::io::Write;
 use std::sync::Wait;
@@ -13,7 +14,7 @@ use std::thread::Threads;
 /// the script's calls in one session, and writes the answer of each. A refused call is a line too,
 /// and the script goes on. Where the output cannot be written, no further call is made. All threads
 /// that it starts have ended.
-pub fn run_files<R: Threads + Wait + Copy + Drop + Send + 'static, T: Texts, O: Write>(
+pub fn run_files<R: Threads + Wait + Copy + Drop + Send + Sync + 'static, T: Texts, O: Write>(
     rt: R,
     alloc: Global,
     recipe: &str,
@@ -22,7 +23,8 @@ pub fn run_files<R: Threads + Wait + Copy + Drop + Send + 'static, T: Texts, O: 
     out: &mut O,
 ) -> Result<(), Fault> {
     let plan = plan_named(alloc, recipe, texts)?;
-    let calls = calls_named(alloc, script, texts)?;
+    let text = texts.text(script)?;
+    let calls = read_script(alloc, text.as_slice())?;
     Ok(start(rt, alloc, plan, Play::Run(calls), out)?)
 }
 
@@ -39,7 +41,9 @@ pub fn race_files<R: Threads + Wait + Copy + Drop + Send + Sync + 'static, T: Te
     out: &mut O,
 ) -> Result<(), Fault> {
     let plan = plan_named(alloc, recipe, texts)?;
-    let all = calls_of_all(&rt, alloc, scripts, texts)?;
+    let read = texts_of_all(alloc, scripts, texts)?;
+    let all = calls_of_all(&rt, alloc, &read.texts)?;
+    read.unread?;
     Ok(start(rt, alloc, plan, Play::Race(all), out)?)
 }
 

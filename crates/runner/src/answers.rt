@@ -8,13 +8,17 @@ use script::command::Command;
 use sessions::reads::Found;
 use sessions::session::{Accepted, Session};
 use std::alloc::Global;
+use std::borrow::CowStr;
 use std::io::{self, Write};
 use std::sync::Wait;
 
 /// What a call that is not refused answers.
 #[derive(Drop)]
-pub(crate) enum Answered {
-    Accepted { table: String, accepted: Accepted },
+pub(crate) enum Answered<'t> {
+    Accepted {
+        table: CowStr<'t>,
+        accepted: Accepted,
+    },
     Fenced,
     Found(Found),
     Sent,
@@ -22,12 +26,12 @@ pub(crate) enum Answered {
 }
 
 /// Makes the call in a session. A `closing` is a read at its place.
-pub(crate) fn make<J: Naming, R: Wait>(
+pub(crate) fn make<'t, J: Naming, R: Wait>(
     rt: &R,
     alloc: Global,
     session: &mut Session<J>,
-    command: Command,
-) -> Result<Answered, Refused> {
+    command: Command<'t>,
+) -> Result<Answered<'t>, Refused> {
     match command {
         Command::Insert { table, cells } => {
             make_write(rt, alloc, session, table, Words::Insert(cells))
@@ -59,26 +63,26 @@ pub(crate) fn make<J: Naming, R: Wait>(
 }
 
 // Makes a write to the table of this name.
-fn make_write<J: Naming, R: Wait>(
+fn make_write<'t, J: Naming, R: Wait>(
     rt: &R,
     alloc: Global,
     session: &mut Session<J>,
-    table: String,
-    words: Words,
-) -> Result<Answered, Refused> {
+    table: CowStr<'t>,
+    words: Words<'_>,
+) -> Result<Answered<'t>, Refused> {
     let accepted = write(rt, alloc, session, table.as_str(), words)?;
     Ok(Answered::Accepted { table, accepted })
 }
 
 // Makes a read, or else a try.
-fn make_look<J: Naming, R: Wait>(
+fn make_look<'t, J: Naming, R: Wait>(
     rt: &R,
     alloc: Global,
     session: &mut Session<J>,
     read: bool,
     view: &str,
-    key: String,
-) -> Result<Answered, Refused> {
+    key: CowStr<'_>,
+) -> Result<Answered<'t>, Refused> {
     Ok(Answered::Found(look(rt, alloc, session, read, view, key)?))
 }
 
@@ -87,7 +91,7 @@ pub(crate) fn answer<J: Naming, R: Wait, O: Write>(
     rt: &R,
     alloc: Global,
     session: &mut Session<J>,
-    command: Command,
+    command: Command<'_>,
     out: &mut O,
 ) -> Result<(), Refused> {
     let answered = make(rt, alloc, session, command);
@@ -95,7 +99,7 @@ pub(crate) fn answer<J: Naming, R: Wait, O: Write>(
 }
 
 // Writes the lines of an answer, or of a refusal.
-fn write_answer<O: Write>(answer: Result<Answered, Refused>, out: &mut O) -> io::Result<()> {
+fn write_answer<O: Write>(answer: Result<Answered<'_>, Refused>, out: &mut O) -> io::Result<()> {
     match answer {
         Ok(Answered::Accepted { table, accepted }) => {
             let Accepted { shard, index, .. } = accepted;

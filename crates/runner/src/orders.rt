@@ -5,6 +5,7 @@ use script::cell::value_of;
 use script::columns::{kind_of_key, kind_of_stage_key};
 use sessions::session::Session;
 use std::alloc::Global;
+use std::borrow::CowStr;
 use std::sync::Wait;
 
 /// Orders the stage shard to forget the stage key that the word is.
@@ -12,7 +13,7 @@ pub(crate) fn evict_stage<J: Naming, R: Wait>(
     rt: &R,
     alloc: Global,
     session: &mut Session<J>,
-    word: String,
+    word: CowStr<'_>,
 ) -> Result<(), Refused> {
     let key = value_of(alloc, kind_of_stage_key(session.plan()), word)?;
     session.evict_stage(rt, alloc, &key)
@@ -24,7 +25,7 @@ pub(crate) fn evict_view<J: Naming, R: Wait>(
     alloc: Global,
     session: &mut Session<J>,
     view: &str,
-    word: String,
+    word: CowStr<'_>,
 ) -> Result<(), Refused> {
     let key = value_of(alloc, kind_of_key(session.plan(), view), word)?;
     session.evict_view(rt, alloc, view, &key)

@@ -8,7 +8,7 @@ use book::book::Opened;
 use book::law::Naming;
 use plan::plan::Plan;
 use row::refused::Refused;
-use script::script::Call;
+use script::script::ScriptCall;
 use std::alloc::Global;
 use std::io::{BufWriter, Write};
 use std::marker::Brand;
@@ -23,24 +23,25 @@ const SCRIPTS: usize = 15;
 
 /// What the sessions of a store do.
 #[derive(Drop)]
-pub enum Play {
+pub enum Play<'t> {
     /// One session makes these calls in turn, and the lines of each answer are written.
-    Run(Vec<Call>),
-    /// Each script runs in a session and a thread of its own, all at once; what each came to is
-    /// written. Then one session more, which has met all others, makes the closing fence and the
-    /// closing reads of all scripts in order, and the lines of their answers are written.
-    Race(Vec<Vec<Call>>),
+    Run(Vec<ScriptCall<'t>>),
+    /// Each script runs in a session and, where one can be made, a thread of its own, all at once;
+    /// what each came to is written. Then one session more, which has met all others, makes the
+    /// closing fence and the closing reads of all scripts in order, and the lines of their answers
+    /// are written.
+    Race(Vec<Vec<ScriptCall<'t>>>),
 }
 
 /// Starts the plan, plays, and writes the answers. A refused call is a line too, or counted, and
 /// the script goes on. Errors: `NoSessionLeft` where more than fifteen scripts race, and nothing
 /// is started; `NoMemory`; `CannotWrite`, and then no further call is made. All threads that it
 /// starts have ended.
-pub fn start<R: Threads + Wait + Copy + Drop + Send + 'static, O: Write>(
+pub fn start<R: Threads + Wait + Copy + Drop + Send + Sync + 'static, O: Write>(
     rt: R,
     alloc: Global,
     plan: Plan,
-    play: Play,
+    play: Play<'_>,
     out: &mut O,
 ) -> Result<(), Refused> {
     let sessions = sessions_of(&play)?;
@@ -49,7 +50,7 @@ pub fn start<R: Threads + Wait + Copy + Drop + Send + 'static, O: Write>(
 }
 
 // How many sessions it takes.
-fn sessions_of(play: &Play) -> Result<usize, Refused>
+fn sessions_of(play: &Play<'_>) -> Result<usize, Refused>
     ensures { IfOk result (λ n. n ≤ most_sessions) }
 {
     match play {
@@ -61,7 +62,7 @@ fn sessions_of(play: &Play) -> Result<usize, Refused>
 
 fn start_named<
     J: Naming + Send + Sync + 'static,
-    R: Threads + Wait + Copy + Drop + Send + 'static,
+    R: Threads + Wait + Copy + Drop + Send + Sync + 'static,
     O: Write,
 >(
     rt: R,
@@ -69,7 +70,7 @@ fn start_named<
     opened: Opened,
     plan: Plan,
     sessions: usize,
-    play: Play,
+    play: Play<'_>,
     out: &mut O,
 ) -> Result<(), Refused>
     requires book { opened.book ≡ J.book }
@@ -94,9 +95,15 @@ fn start_named<
 // Plays in sessions of the system, through a buffer that is flushed at the end.
 fn play_buffered<
     J: Naming + Send + Sync + 'static,
-    R: Threads + Wait + Copy + Drop + Send + 'static,
+    R: Threads + Wait + Copy + Drop + Send + Sync + 'static,
     O: Write,
->(rt: R, alloc: Global, system: &mut System<J>, play: Play, out: &mut O) -> Result<(), Refused> {
+>(
+    rt: R,
+    alloc: Global,
+    system: &mut System<J>,
+    play: Play<'_>,
+    out: &mut O,
+) -> Result<(), Refused> {
     let mut out = BufWriter::new(alloc, out).map_err(|_| Refused::NoMemory)?;
     match play {
         Play::Run(calls) => run(&rt, alloc, system, calls, &mut out)?,
@@ -110,7 +117,7 @@ fn run<J: Naming + Send + Sync + 'static, R: Wait, O: Write>(
     rt: &R,
     alloc: Global,
     system: &mut System<J>,
-    calls: Vec<Call>,
+    calls: Vec<ScriptCall<'_>>,
     out: &mut O,
 ) -> Result<(), Refused> {
     let mut session = system.session(alloc)?;

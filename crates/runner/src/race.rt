@@ -1,37 +1,44 @@
-//! Races scripts: all of them at once, each in a session and a thread of its own.
+//! Races scripts: all of them at once, each in a session of its own.
 use crate::answers::{Answered, answer, make};
 use book::law::Naming;
 use row::refused::Refused;
 use script::command::Command;
-use script::script::Call;
+use script::script::ScriptCall;
 use sessions::session::Session;
 use std::alloc::Global;
 use std::io::Write;
 use std::sync::Wait;
-use std::thread::{self, JoinHandle, Threads};
+use std::thread::{self, Threads};
 use system::system::System;
+
+// A script that is to run, and its session.
+#[derive(Drop)]
+struct Script<'t, J: Naming> {
+    session: Session<J>,
+    calls: Vec<ScriptCall<'t>>,
+}
 
 // What a script came to: its session, how many writes were accepted and calls refused, and its
 // closing reads, which were not made yet.
 #[derive(Drop)]
-struct Raced<J: Naming> {
+struct Raced<'t, J: Naming> {
     session: Session<J>,
     accepted: usize,
     refused: usize,
-    closings: Vec<Command>,
+    closings: Vec<Command<'t>>,
 }
 
 // Runs all scripts at once, and writes what each came to. Then a session that has met all others
 // makes one fence, and the closing reads of all scripts in order.
 pub(crate) fn race<
     J: Naming + Send + Sync + 'static,
-    R: Threads + Wait + Copy + Drop + Send + 'static,
+    R: Threads + Wait + Copy + Drop + Send + Sync + 'static,
     O: Write,
 >(
     rt: R,
     alloc: Global,
     system: &mut System<J>,
-    scripts: Vec<Vec<Call>>,
+    scripts: Vec<Vec<ScriptCall<'_>>>,
     out: &mut O,
 ) -> Result<(), Refused> {
     let raced = run_all(rt, alloc, system, scripts)?;
@@ -39,68 +46,40 @@ pub(crate) fn race<
     tell(&rt, alloc, &mut session, raced, out)
 }
 
-// Runs all scripts at once, and waits for all of them, also where one was not started.
-fn run_all<J: Naming + Send + Sync + 'static, R: Threads + Wait + Copy + Drop + Send + 'static>(
+// Runs all scripts at once, each by a thread of its own where one can be made, and waits for all of
+// them, also where one was refused memory.
+fn run_all<
+    't,
+    J: Naming + Send + Sync + 'static,
+    R: Threads + Wait + Copy + Drop + Send + Sync + 'static,
+>(
     rt: R,
     alloc: Global,
     system: &mut System<J>,
-    scripts: Vec<Vec<Call>>,
-) -> Result<Vec<Raced<J>>, Refused> {
-    let mut runners = Vec::with_capacity(alloc, scripts.len())?;
-    let started = start_all(rt, alloc, system, scripts, &mut runners);
-    let raced = join_all(&rt, alloc, runners);
-    started?;
-    raced
-}
-
-// Starts a thread for each script, with a session of its own.
-fn start_all<J: Naming + Send + Sync + 'static, R: Threads + Wait + Copy + Drop + Send + 'static>(
-    rt: R,
-    alloc: Global,
-    system: &mut System<J>,
-    scripts: Vec<Vec<Call>>,
-    runners: &mut Vec<JoinHandle<Result<Raced<J>, Refused>>>,
-) -> Result<(), Refused> {
+    scripts: Vec<Vec<ScriptCall<'t>>>,
+) -> Result<Vec<Raced<'t, J>>, Refused> {
+    let mut opened = Vec::with_capacity(alloc, scripts.len())?;
     for calls in scripts {
         let session = system.session(alloc)?;
-        let work = move || run_script(&rt, alloc, session, calls);
-        let runner = thread::spawn(&rt, work).map_err(|_| Refused::NoMemory)?;
-        runners.push(runner).map_err(|_| Refused::NoMemory)?;
+        opened
+            .push(Script { session, calls })
+            .map_err(|_| Refused::NoMemory)?;
     }
-    Ok(())
-}
-
-// Waits for all of them, also where one was refused memory.
-fn join_all<J: Naming, R: Threads + Wait>(
-    rt: &R,
-    alloc: Global,
-    runners: Vec<JoinHandle<Result<Raced<J>, Refused>>>,
-) -> Result<Vec<Raced<J>>, Refused> {
-    let mut raced = Vec::new(alloc);
-    let mut failed = None;
-    for runner in runners {
-        match runner.join(rt) {
-            Ok(one) => {
-                if raced.push(one).is_err() {
-                    failed = Some(Refused::NoMemory);
-                }
-            }
-            Err(refused) => failed = Some(refused),
-        }
+    let ran = thread::map_vec(&rt, opened, &|script| run_script(&rt, alloc, script))?;
+    let mut raced = Vec::with_capacity(alloc, ran.len())?;
+    for one in ran {
+        raced.push(one?).map_err(|_| Refused::NoMemory)?;
     }
-    match failed {
-        Some(refused) => Err(refused),
-        None => Ok(raced),
-    }
+    Ok(raced)
 }
 
 // Makes all calls but the closing reads.
-fn run_script<J: Naming, R: Wait>(
+fn run_script<'t, J: Naming, R: Wait>(
     rt: &R,
     alloc: Global,
-    session: Session<J>,
-    calls: Vec<Call>,
-) -> Result<Raced<J>, Refused> {
+    script: Script<'t, J>,
+) -> Result<Raced<'t, J>, Refused> {
+    let Script { session, calls } = script;
     let mut raced = Raced {
         session,
         accepted: 0,
@@ -114,11 +93,11 @@ fn run_script<J: Naming, R: Wait>(
 }
 
 // Makes a call and counts what comes of it; a closing read is put by.
-fn run_call<J: Naming, R: Wait>(
+fn run_call<'t, J: Naming, R: Wait>(
     rt: &R,
     alloc: Global,
-    raced: &mut Raced<J>,
-    command: Command,
+    raced: &mut Raced<'t, J>,
+    command: Command<'t>,
 ) -> Result<(), Refused> {
     if let Command::Closing { .. } = command {
         return Ok(raced.closings.push(command)?);
@@ -136,7 +115,7 @@ fn tell<J: Naming, R: Wait, O: Write>(
     rt: &R,
     alloc: Global,
     session: &mut Session<J>,
-    raced: Vec<Raced<J>>,
+    raced: Vec<Raced<'_, J>>,
     out: &mut O,
 ) -> Result<(), Refused> {
     let mut closings = Vec::new(alloc);
@@ -154,7 +133,7 @@ fn tell<J: Naming, R: Wait, O: Write>(
 // Writes what a script came to, and meets its session.
 fn tell_one<J: Naming, O: Write>(
     number: usize,
-    one: &mut Raced<J>,
+    one: &mut Raced<'_, J>,
     session: &mut Session<J>,
     out: &mut O,
 ) -> Result<(), Refused> {
@@ -171,7 +150,7 @@ fn answer_all<J: Naming, R: Wait, O: Write>(
     rt: &R,
     alloc: Global,
     session: &mut Session<J>,
-    commands: Vec<Command>,
+    commands: Vec<Command<'_>>,
     out: &mut O,
 ) -> Result<(), Refused> {
     for command in commands {

@@ -6,6 +6,7 @@ use script::columns::kind_of_key;
 use sessions::reads::{Answer, Found};
 use sessions::session::Session;
 use std::alloc::Global;
+use std::borrow::CowStr;
 use std::io::{self, Write};
 use std::sync::Wait;
 
@@ -16,7 +17,7 @@ pub(crate) fn look<J: Naming, R: Wait>(
     session: &mut Session<J>,
     read: bool,
     view: &str,
-    word: String,
+    word: CowStr<'_>,
 ) -> Result<Found, Refused> {
     let key = value_of(alloc, kind_of_key(session.plan(), view), word)?;
     if read {

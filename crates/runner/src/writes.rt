@@ -6,14 +6,15 @@ use script::cell::value_of;
 use script::columns::{kind_of_table, row_of};
 use sessions::session::{Accepted, Session};
 use std::alloc::Global;
+use std::borrow::CowStr;
 use std::sync::Wait;
 
 /// The words of a write behind its table: the cells of a row, or a key.
 #[derive(Drop)]
-pub(crate) enum Words {
-    Insert(Vec<String>),
-    Update(Vec<String>),
-    Delete(String),
+pub(crate) enum Words<'t> {
+    Insert(Vec<CowStr<'t>>),
+    Update(Vec<CowStr<'t>>),
+    Delete(CowStr<'t>),
 }
 
 /// Makes the write that the words ask for.
@@ -22,7 +23,7 @@ pub(crate) fn write<J: Naming, R: Wait>(
     alloc: Global,
     session: &mut Session<J>,
     table: &str,
-    words: Words,
+    words: Words<'_>,
 ) -> Result<Accepted, Refused> {
     let entry = match words {
         Words::Insert(cells) => Entry::Insert(row_of(alloc, session.plan(), table, cells)?),

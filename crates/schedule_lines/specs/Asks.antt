@@ -1,6 +1,7 @@
 -- What the words of a line of a schedule ask for.
-use Rattle.std.specs.Prelude.{◌≡◌, ℕ, ◌<◌, List, [], ◌∷◌, ◌⊎◌, map, string_bytes, codes}
+use Rattle.std.specs.Prelude.{◌≡◌, ℕ, ◌<◌, List, [], ◌∷◌, ◌⊎◌, map, codes}
 use Rattle.std.specs.Fmt.{decimal}
+use Rattle.std.specs.Cow.{cow_str_bytes}
 use Rattle.script.specs.Commands as script
 use Rattle.schedule_lines.specs.declared.event_line.EntryWords.{EntryWords}
 use Rattle.schedule_lines.specs.declared.event_line.EntryWords.TheVariants as entry
@@ -27,25 +28,25 @@ pub data Ask : Type 0 where
 
 -- the program's words as a write of the session to the table
 abbrev pub write_of : ℕ → List ℕ → EntryWords → Ask
-write_of session table (entry.Insert cells) = insert session table (map string_bytes cells.items)
-write_of session table (entry.Update cells) = update session table (map string_bytes cells.items)
-write_of session table (entry.Delete key) = delete session table (string_bytes key)
+write_of session table (entry.Insert cells) = insert session table (map cow_str_bytes cells.items)
+write_of session table (entry.Update cells) = update session table (map cow_str_bytes cells.items)
+write_of session table (entry.Delete key) = delete session table (cow_str_bytes key)
 
 -- and as a call of the session
 abbrev pub called_by : ℕ → CallWords → Ask
-called_by session (call.Write table words) = write_of session (string_bytes table) words
-called_by session (call.Try view key) = try session (string_bytes view) (string_bytes key)
-called_by session (call.Want view key) = want session (string_bytes view) (string_bytes key)
+called_by session (call.Write table words) = write_of session (cow_str_bytes table) words
+called_by session (call.Try view key) = try session (cow_str_bytes view) (cow_str_bytes key)
+called_by session (call.Want view key) = want session (cow_str_bytes view) (cow_str_bytes key)
 called_by session call.Fence = fence session
-called_by session (call.Count view) = count session (string_bytes view)
+called_by session (call.Count view) = count session (cow_str_bytes view)
 
 -- the program's line as such
 abbrev pub ask_of : EventLine → Ask
 ask_of (code.Call session words) = called_by session words
-ask_of (code.Deliver edge) = deliver (string_bytes edge)
-ask_of (code.EvictStage key) = evict_stage (string_bytes key)
-ask_of (code.EvictView view key) = evict_view (string_bytes view) (string_bytes key)
-ask_of (code.Stop domain) = stop (string_bytes domain)
+ask_of (code.Deliver edge) = deliver (cow_str_bytes edge)
+ask_of (code.EvictStage key) = evict_stage (cow_str_bytes key)
+ask_of (code.EvictView view key) = evict_view (cow_str_bytes view) (cow_str_bytes key)
+ask_of (code.Stop domain) = stop (cow_str_bytes domain)
 ask_of code.Settle = settle
 
 -- the numbers that a schedule may give a session are below it

@@ -1,67 +1,83 @@
 //! The events that words ask for.
-ghost use Rattle.std.specs.Prelude.{◌≡◌, ◌≢◌, ◌↔◌, ℕ, pos, ◌<◌, length, map, string_bytes, IsTrue, IfOk, IfSome, IsNone, MatchOption};
+ghost use Rattle.std.specs.Prelude.{◌≡◌, ◌≢◌, ◌↔◌, ℕ, pos, ◌<◌, length, map, IsTrue, IfSome, IsNone, MatchOption};
+ghost use Rattle.std.specs.Cow.{cow_str_bytes};
 ghost use Rattle.schedule_lines.specs.Asks.{Ask, Asks, Calls, IsOrder, IsSession, IsWant, ask_of, called_by, session_limit};
 
 use script::cell::number_of;
 use script::command::Command;
 use script::reader::Form;
 use std::alloc::{AllocError, Global};
+use std::borrow::CowStr;
 
 /// The greatest number of a session in a line, whether there is such a session or not.
 const LAST: i64 = 4294967295;
 
 /// What is written to a table, by its words.
-#[derive(PartialEq, Eq, Debug, Drop)]
-pub enum EntryWords {
+#[derive(Drop)]
+pub enum EntryWords<'t> {
     /// A row, of at least one cell.
-    Insert(Vec<String>),
+    Insert(Vec<CowStr<'t>>),
     /// A row, of at least one cell, in place of the row of its key.
-    Update(Vec<String>),
+    Update(Vec<CowStr<'t>>),
     /// The row of the key goes.
-    Delete(String),
+    Delete(CowStr<'t>),
 }
 
 /// What a session asks for, by its words.
-#[derive(PartialEq, Eq, Debug, Drop)]
-pub enum CallWords {
+#[derive(Drop)]
+pub enum CallWords<'t> {
     /// `insert TABLE CELL..`, `update TABLE CELL..` or `delete TABLE KEY`.
-    Write { table: String, entry: EntryWords },
+    Write {
+        table: CowStr<'t>,
+        entry: EntryWords<'t>,
+    },
     /// `try VIEW KEY`: the rows of the key in the view, where they are shown.
-    Try { view: String, key: String },
+    Try {
+        view: CowStr<'t>,
+        key: CowStr<'t>,
+    },
     /// `want VIEW KEY`: the view shard is asked for the key, as a read that misses asks it.
-    Want { view: String, key: String },
+    Want {
+        view: CowStr<'t>,
+        key: CowStr<'t>,
+    },
     /// `fence`: the session's floors raised to what it has written.
     Fence,
     /// `count VIEW`: how many requests the shards of the view have sent.
-    Count { view: String },
+    Count {
+        view: CowStr<'t>,
+    },
 }
 
 /// What a line of a schedule asks for. A session stands by its number, all else by its words.
-#[derive(PartialEq, Eq, Debug, Drop)]
-pub enum EventLine {
+#[derive(Drop)]
+pub enum EventLine<'t> {
     /// `S CALL`: what the session asks for.
-    Call { session: usize, call: CallWords },
+    Call { session: usize, call: CallWords<'t> },
     /// `deliver EDGE`: the first message of the edge comes.
-    Deliver { edge: String },
+    Deliver { edge: CowStr<'t> },
     /// `evict stage KEY`: the stage shard forgets the rows of the stage key.
-    EvictStage { key: String },
+    EvictStage { key: CowStr<'t> },
     /// `evict view VIEW KEY`: the view shard forgets the rows of the key.
-    EvictView { view: String, key: String },
+    EvictView { view: CowStr<'t>, key: CowStr<'t> },
     /// `stop DOMAIN`: the domain runs no more.
-    Stop { domain: String },
+    Stop { domain: CowStr<'t> },
     /// `settle`: deliveries until all edges are empty.
     Settle,
 }
 
-impl Form for EventLine {
+impl<'t> Form<'t> for EventLine<'t> {
     ghost Asked = { Ask };
 
     ghost asked = { ask_of };
 
     ghost asks = { Asks };
 
-    fn of_words(alloc: Global, mut words: Vec<String>) -> Result<Option<EventLine>, AllocError> {
-        let Some(session) = session_of(alloc, words[0].as_str())? else {
+    fn of_words(
+        _alloc: Global,
+        mut words: Vec<CowStr<'t>>,
+    ) -> Result<Option<EventLine<'t>>, AllocError> {
+        let Some(session) = session_of(words[0].as_str()) else {
             return Ok(order(words));
         };
         let _session = words.remove(0);
@@ -73,13 +89,13 @@ impl Form for EventLine {
 }
 
 /// The session's number that the word is, if it is one.
-fn session_of(alloc: Global, word: &str) -> Result<Option<usize>, AllocError>
-    ensures { IfOk result (λ found. MatchOption found ((n : ℕ) → ¬ IsSession word.now n)
-        (λ n. IsSession word.now n)) }
+fn session_of(word: &str) -> Option<usize>
+    ensures { MatchOption result ((n : ℕ) → ¬ IsSession word.now n)
+        (λ n. IsSession word.now n) }
 {
-    match number_of(alloc, word)? {
-        Some(number) => Ok(session_in(number)),
-        None => Ok(None),
+    match number_of(word) {
+        Some(number) => session_in(number),
+        None => None,
     }
 }
 
@@ -95,11 +111,11 @@ fn session_in(number: i64) -> Option<usize>
 }
 
 /// The call that the words behind a session's number ask for.
-fn call(words: Vec<String>) -> Option<CallWords>
+fn call<'t>(words: Vec<CowStr<'t>>) -> Option<CallWords<'t>>
     ensures some { IfSome result (λ call. (session : ℕ)
-        → Calls session (map string_bytes words.items) (called_by session call)) }
+        → Calls session (map cow_str_bytes words.entry.items) (called_by session call)) }
     ensures none { IsNone result → (session : ℕ) (ask : Ask)
-        → ¬ Calls session (map string_bytes words.items) ask }
+        → ¬ Calls session (map cow_str_bytes words.entry.items) ask }
 {
     if words.is_empty() {
         return None;
@@ -131,8 +147,8 @@ fn call(words: Vec<String>) -> Option<CallWords>
 }
 
 /// Whether the first word is `want`.
-fn is_want(words: &[String]) -> bool
-    ensures { IsTrue result ↔ IsWant (map string_bytes words.now) }
+fn is_want(words: &[CowStr<'_>]) -> bool
+    ensures { IsTrue result ↔ IsWant (map cow_str_bytes words.now) }
 {
     match words.first() {
         Some(word) => word.as_str() == "want",
@@ -141,12 +157,12 @@ fn is_want(words: &[String]) -> bool
 }
 
 /// The words `want VIEW KEY`, of which the first is there.
-fn want(mut words: Vec<String>) -> Option<CallWords>
-    requires { IsWant (map string_bytes words.items) }
+fn want<'t>(mut words: Vec<CowStr<'t>>) -> Option<CallWords<'t>>
+    requires { IsWant (map cow_str_bytes words.items) }
     ensures some { IfSome result (λ call. (session : ℕ)
-        → Calls session (map string_bytes words.items) (called_by session call)) }
+        → Calls session (map cow_str_bytes words.entry.items) (called_by session call)) }
     ensures none { IsNone result → (session : ℕ) (ask : Ask)
-        → ¬ Calls session (map string_bytes words.items) ask }
+        → ¬ Calls session (map cow_str_bytes words.entry.items) ask }
 {
     if words.len() != 3 {
         return None;
@@ -157,10 +173,10 @@ fn want(mut words: Vec<String>) -> Option<CallWords>
 }
 
 /// What words that begin with no session's number ask for.
-fn order(words: Vec<String>) -> Option<EventLine>
+fn order<'t>(words: Vec<CowStr<'t>>) -> Option<EventLine<'t>>
     requires { 0 < length words.items }
-    ensures some { IfSome result (λ line. IsOrder (map string_bytes words.items) (ask_of line)) }
-    ensures none { IsNone result → (ask : Ask) → ¬ IsOrder (map string_bytes words.items) ask }
+    ensures some { IfSome result (λ line. IsOrder (map cow_str_bytes words.entry.items) (ask_of line)) }
+    ensures none { IsNone result → (ask : Ask) → ¬ IsOrder (map cow_str_bytes words.entry.items) ask }
 {
     if words.len() < 3 {
         return short_order(words);
@@ -173,11 +189,11 @@ fn order(words: Vec<String>) -> Option<EventLine>
 }
 
 /// The words `settle`, `deliver EDGE` or `stop DOMAIN`.
-fn short_order(mut words: Vec<String>) -> Option<EventLine>
+fn short_order<'t>(mut words: Vec<CowStr<'t>>) -> Option<EventLine<'t>>
     requires some { 0 < length words.items }
     requires few { length words.items < 3 }
-    ensures some { IfSome result (λ line. IsOrder (map string_bytes words.items) (ask_of line)) }
-    ensures none { IsNone result → (ask : Ask) → ¬ IsOrder (map string_bytes words.items) ask }
+    ensures some { IfSome result (λ line. IsOrder (map cow_str_bytes words.entry.items) (ask_of line)) }
+    ensures none { IsNone result → (ask : Ask) → ¬ IsOrder (map cow_str_bytes words.entry.items) ask }
 {
     let name = words.remove(0);
     match (name.as_str(), words.pop()) {

@@ -1,5 +1,6 @@
 //! The events that a schedule is over a plan.
-ghost use Rattle.std.specs.Prelude.{◌≡◌, ℕ, List, map, string_bytes, IfOk};
+ghost use Rattle.std.specs.Prelude.{◌≡◌, ℕ, List, map, IfOk};
+ghost use Rattle.std.specs.Cow.{cow_str_bytes};
 ghost use Rattle.row.specs.Cells.{datum_of};
 ghost use Rattle.model.specs.Entries.{change_of};
 ghost use Rattle.protocol.specs.Events as protocol;
@@ -18,15 +19,16 @@ use schedule::event::Event;
 use script::cell::value_of;
 use script::columns::{kind_of_key, kind_of_stage_key, kind_of_table, row_of};
 use std::alloc::{AllocError, Global};
+use std::borrow::CowStr;
 
 /// The events that lines ask for over the plan, in order: each cell and key is read by its column,
 /// each edge and domain is the plan's of that text. Errors: memory only. Cost: a look at each word;
 /// for a `deliver` and a `stop` the text of each edge or domain of the plan.
-pub fn events_of(alloc: Global, plan: &Plan, lines: Vec<Line>) -> Result<Vec<Event>, AllocError>
-    ensures events { IfOk result (λ events. AreEvents plan.now (map numbered lines.items)
+pub fn events_of(alloc: Global, plan: &Plan, lines: Vec<Line<'_>>) -> Result<Vec<Event>, AllocError>
+    ensures events { IfOk result (λ events. AreEvents plan.now (map numbered lines.entry.items)
         (map event_of events.items)) }
     ensures only { IfOk result (λ events. (others : List protocol.Event)
-        → AreEvents plan.now (map numbered lines.items) others
+        → AreEvents plan.now (map numbered lines.entry.items) others
         → others ≡ map event_of events.items) }
 {
     let mut events = Vec::new(alloc);
@@ -38,8 +40,8 @@ pub fn events_of(alloc: Global, plan: &Plan, lines: Vec<Line>) -> Result<Vec<Eve
 
 /// The event that a line asks for over the plan. Errors: memory only. Cost: a look at each word;
 /// for a `deliver` and a `stop` the text of each edge or domain of the plan.
-pub fn event_of(alloc: Global, plan: &Plan, line: EventLine) -> Result<Event, AllocError>
-    ensures { IfOk result (λ event. IsEvent plan.now (ask_of line) (event_of event)) }
+pub fn event_of(alloc: Global, plan: &Plan, line: EventLine<'_>) -> Result<Event, AllocError>
+    ensures { IfOk result (λ event. IsEvent plan.now (ask_of line.entry) (event_of event)) }
 {
     match line {
         EventLine::Call { session, call } => call_of(alloc, plan, session, call),
@@ -47,6 +49,7 @@ pub fn event_of(alloc: Global, plan: &Plan, line: EventLine) -> Result<Event, Al
         EventLine::EvictStage { key } => evict_stage(alloc, plan, key),
         EventLine::EvictView { view, key } => {
             let key = key_of(alloc, plan, view.as_str(), key)?;
+            let view = view.into_owned(alloc)?;
             Ok(Event::EvictView { view, key })
         }
         EventLine::Stop { domain } => stop(alloc, plan, domain.as_str()),
@@ -55,12 +58,18 @@ pub fn event_of(alloc: Global, plan: &Plan, line: EventLine) -> Result<Event, Al
 }
 
 /// The event that a call of the session is.
-fn call_of(alloc: Global, plan: &Plan, session: usize, call: CallWords) -> Result<Event, AllocError>
-    ensures { IfOk result (λ event. IsEvent plan.now (called_by session call) (event_of event)) }
+fn call_of(
+    alloc: Global,
+    plan: &Plan,
+    session: usize,
+    call: CallWords<'_>,
+) -> Result<Event, AllocError>
+    ensures { IfOk result (λ event. IsEvent plan.now (called_by session call.entry) (event_of event)) }
 {
     match call {
         CallWords::Write { table, entry } => {
             let entry = entry_of(alloc, plan, table.as_str(), entry)?;
+            let table = table.into_owned(alloc)?;
             Ok(Event::Write {
                 session,
                 table,
@@ -69,21 +78,31 @@ fn call_of(alloc: Global, plan: &Plan, session: usize, call: CallWords) -> Resul
         }
         CallWords::Try { view, key } => {
             let key = key_of(alloc, plan, view.as_str(), key)?;
+            let view = view.into_owned(alloc)?;
             Ok(Event::Try { session, view, key })
         }
         CallWords::Want { view, key } => {
             let key = key_of(alloc, plan, view.as_str(), key)?;
+            let view = view.into_owned(alloc)?;
             Ok(Event::Want { session, view, key })
         }
         CallWords::Fence => Ok(Event::Fence { session }),
-        CallWords::Count { view } => Ok(Event::Count { session, view }),
+        CallWords::Count { view } => {
+            let view = view.into_owned(alloc)?;
+            Ok(Event::Count { session, view })
+        }
     }
 }
 
 /// The entry that the words are in the table of this name, whatever session writes it.
-fn entry_of(alloc: Global, plan: &Plan, table: &str, words: EntryWords) -> Result<Entry, AllocError>
+fn entry_of(
+    alloc: Global,
+    plan: &Plan,
+    table: &str,
+    words: EntryWords<'_>,
+) -> Result<Entry, AllocError>
     ensures { IfOk result (λ entry. (session : ℕ) → IsEvent plan.now
-        (write_of session table.now words) (write session table.now (change_of entry))) }
+        (write_of session table.now words.entry) (write session table.now (change_of entry))) }
 {
     match words {
         EntryWords::Insert(cells) => Ok(Entry::Insert(row_of(alloc, plan, table, cells)?)),
@@ -96,8 +115,8 @@ fn entry_of(alloc: Global, plan: &Plan, table: &str, words: EntryWords) -> Resul
 }
 
 /// The key that the word is in the view of this name.
-fn key_of(alloc: Global, plan: &Plan, view: &str, word: String) -> Result<Value, AllocError>
-    ensures { IfOk result (λ key. IsRead (kind_of_key plan.now view.now) (string_bytes word)
+fn key_of(alloc: Global, plan: &Plan, view: &str, word: CowStr<'_>) -> Result<Value, AllocError>
+    ensures { IfOk result (λ key. IsRead (kind_of_key plan.now view.now) (cow_str_bytes word.entry)
         (datum_of key)) }
 {
     value_of(alloc, kind_of_key(plan, view), word)
@@ -110,8 +129,8 @@ fn deliver(alloc: Global, plan: &Plan, edge: &str) -> Result<Event, AllocError>
     Ok(Event::Deliver { edge })
 }
 
-fn evict_stage(alloc: Global, plan: &Plan, word: String) -> Result<Event, AllocError>
-    ensures { IfOk result (λ event. IsEvent plan.now (ask.evict_stage (string_bytes word))
+fn evict_stage(alloc: Global, plan: &Plan, word: CowStr<'_>) -> Result<Event, AllocError>
+    ensures { IfOk result (λ event. IsEvent plan.now (ask.evict_stage (cow_str_bytes word.entry))
         (event_of event)) }
 {
     let key = value_of(alloc, kind_of_stage_key(plan), word)?;

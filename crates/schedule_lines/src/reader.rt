@@ -9,11 +9,12 @@ use script::script::{Call, ScriptError};
 use std::alloc::Global;
 
 /// A line that is not skipped: its number, from 1, and what it asks for.
-pub type Line = Call<EventLine>;
+pub type Line<'t> = Call<EventLine<'t>>;
 
 /// What the lines of a schedule ask for, in order. Errors: `BadScript` with the first line that is
-/// neither skipped nor of a known form, and memory. A look at each byte, and a copy of the words.
-pub fn read_schedule(alloc: Global, text: &[u8]) -> Result<Vec<Line>, ScriptError>
+/// neither skipped nor of a known form, and memory. A look at each byte. Bare words are
+/// not copied.
+pub fn read_schedule<'t>(alloc: Global, text: &'t [u8]) -> Result<Vec<Line<'t>>, ScriptError>
     ensures ok { IfOk result (λ asked. IsScript Asks 1 (lines_of text.now)
         (map numbered asked.items)) }
     ensures only { IfOk result (λ asked. (others : List (Numbered Ask))

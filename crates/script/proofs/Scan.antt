@@ -1,12 +1,16 @@
 -- The machine gives the words of a line, and no others.
-use Rattle.std.proofs.Common.{◌≡◌, ℕ, zero, suc, ◌+◌, ◌<◌, ◌≤◌, Bool, true, false, cond, not, ◌||◌, ◌==◌, ◌⊎◌, inl, inr, List, [], ◌∷◌, ◌++◌, length, get_or, drop, replicate, Option, Some, None, refl, ap, sym, subst, ◌∙◌, append_assoc}
-use Rattle.std.proofs.lemmas.List.{append-nil, drop_all, drop_more}
-use Rattle.std.proofs.lemmas.Bool.{cond_both, cond-true, cond-false, cases_Bool, and_parts, and_from, or_parts, or_cases, eqb-true, not-true}
+use Rattle.std.proofs.Common.{◌≡◌, ℕ, zero, suc, ◌<◌, ◌≤◌, Bool, true, false, cond, not, ◌||◌, ◌==◌, ◌⊎◌, inl, inr, take, arith, rules, List, [], ◌∷◌, ◌++◌, length, get_or, drop, replicate, map, string_bytes, Option, Some, None, refl, ap, sym, subst, ◌∙◌, append_assoc}
+use Rattle.std.proofs.lemmas.List.{append-nil}
+use Rattle.std.proofs.Math.ListN.{get_or-eq_default}
+use Rattle.std.proofs.lemmas.Bool.{cases_lt, cond_both, cond-true, cond-false, cases_Bool, and_parts, and_from, or_parts, or_cases, eqb-true, not-true}
 use Rattle.std.specs.List.{list_all}
+use Rattle.std.specs.Str.{IsUtf8}
+use Rattle.std.specs.Cow.{cow_str_bytes}
+use Rattle.std.proofs.lemmas.Str.{IsUtf8-from_ascii}
 use Rattle.row.specs.Printed.{is_escaped, escaped, quoted, is_bare}
 use Rattle.plan.specs.Kinds.{is_printed}
 use Rattle.script.specs.Words.{IsCut, IsForm, IsLine}
-use Rattle.script.specs.Machine.{class_of, step_at, follow, ending, front, scan, gives}
+use Rattle.script.specs.Machine.{class_of, is_plain, step_at, follow, ending, front, scan, gives}
 use Rattle.script.specs.declared.words.Place.{Place}
 use Rattle.script.specs.declared.words.Place.TheVariants.{Between, Bare, Quoted, Escaped, Closed}
 use Rattle.script.specs.declared.words.ByteClass.{ByteClass}
@@ -440,9 +444,70 @@ front_nil None = refl
 front_nil (Some vs) = refl
 
 -- at the end of the line a reader gives what the machine gives
-pub at_end : (r : Reader) (line : List ℕ) (i : ℕ) → length line ≤ i → gives r (drop i line) ≡ scan line Between [] → scan line Between [] ≡ gives r []
-at_end r line i done h = sym h ∙ ap (gives r) (drop_all i line done)
+pub at_end : (r : Reader) (line rest : List ℕ) → length rest < 1 → gives r rest ≡ scan line Between [] → scan line Between [] ≡ gives r []
+at_end r line [] none h = sym h
+at_end r line (b ∷ bs) none h = absurd (omega (arith, none))
 
 -- and at a byte
-pub at_byte : (r : Reader) (line : List ℕ) (i : ℕ) → i < length line → gives r (drop i line) ≡ scan line Between [] → scan line Between [] ≡ gives r (get_or line i 0 ∷ drop (i + 1) line)
-at_byte r line i small h = sym h ∙ ap (gives r) (drop_more line i 0 small)
+pub at_byte : (r : Reader) (line rest : List ℕ) → 1 ≤ length rest → gives r rest ≡ scan line Between [] → scan line Between [] ≡ gives r (get_or rest 0 0 ∷ drop 1 rest)
+at_byte r line [] some h = absurd (omega (arith, some))
+at_byte r line (b ∷ bs) some h = sym h
+
+-- a plain byte that leads from a place to another is one of the word
+plain_step : (b : ℕ) (bs word : List ℕ) (p q : Place) → is_plain b ≡ true → step_at p Plain ≡ Keep q → scan (b ∷ bs) p word ≡ scan bs q (word ++ b ∷ [])
+plain_step b bs word p q plain leads =
+    let parts = and_parts (is_printed b) (is_open b) plain in
+    let step : step_at p (class_of b) ≡ Keep q = ap (step_at p) (class_plain b parts.0 parts.1) ∙ leads in
+    ap (λ s. follow s b word (scan bs)) step
+
+-- so are all in front, at a place that they keep
+scan_kept : (n : ℕ) (bs word : List ℕ) (q : Place) → n ≤ length bs → ((k : ℕ) → k < n → is_plain (get_or bs k 0) ≡ true) → step_at q Plain ≡ Keep q → scan bs q word ≡ scan (drop n bs) q (word ++ take n bs)
+scan_kept zero bs word q small plain kept = ap (scan bs q) (sym (append-nil word))
+scan_kept (suc n) [] word q small plain kept = absurd (omega (arith, small))
+scan_kept (suc n) (b ∷ bs) word q small plain kept =
+    let first = plain_step b bs word q q (plain 0 (omega arith)) kept in
+    let more = scan_kept n bs (word ++ b ∷ []) q (omega (arith, small)) (λ k less. plain (suc k) (omega (arith, less))) kept in
+    first ∙ (more ∙ ap (scan (drop n bs) q) (append_assoc word (b ∷ []) (take n bs)))
+
+-- and where the first leads to that place
+scan_plain : (n : ℕ) (bs word : List ℕ) (p q : Place) → 0 < n → n ≤ length bs → ((k : ℕ) → k < n → is_plain (get_or bs k 0) ≡ true) → step_at p Plain ≡ Keep q → step_at q Plain ≡ Keep q → scan bs p word ≡ scan (drop n bs) q (word ++ take n bs)
+scan_plain zero bs word p q some small plain leads kept = absurd (omega (arith, some))
+scan_plain (suc n) [] word p q some small plain leads kept = absurd (omega (arith, small))
+scan_plain (suc n) (b ∷ bs) word p q some small plain leads kept =
+    let first = plain_step b bs word p q (plain 0 (omega arith)) leads in
+    let more = scan_kept n bs (word ++ b ∷ []) q (omega (arith, small)) (λ k less. plain (suc k) (omega (arith, less))) kept in
+    first ∙ (more ∙ ap (scan (drop n bs) q) (append_assoc word (b ∷ []) (take n bs)))
+
+-- at a cut a bare word ends
+cut_step : (rest word : List ℕ) → IsCut rest → scan rest Bare word ≡ front (word ∷ []) (scan rest Between [])
+cut_step [] word cut = refl
+cut_step (b ∷ bs) word cut =
+    let space = class_space b cut in
+    ap (λ c. follow (step_at Bare c) b word (scan bs)) space ∙ sym (ap (λ c. front (word ∷ []) (follow (step_at Between c) b [] (scan bs))) space)
+
+front_more : (xs ys : List (List ℕ)) (r : Option (List (List ℕ))) → front (xs ++ ys) r ≡ front xs (front ys r)
+front_more xs ys None = refl
+front_more xs ys (Some vs) = ap (λ x. Some x) (append_assoc xs ys vs)
+
+-- a reader that has taken a bare word gives what it gave
+pub bare_taken : (n : ℕ) (bs : List ℕ) (old new : Reader) → 0 < n → n ≤ length bs → ((k : ℕ) → k < n → is_plain (get_or bs k 0) ≡ true) → IsCut (drop n bs) → (old.place ≡ Between) × (string_bytes old.word ≡ []) → new.place ≡ old.place → new.word ≡ old.word → map cow_str_bytes new.words.items ≡ map cow_str_bytes old.words.items ++ (take n bs ∷ []) → gives new (drop n bs) ≡ gives old bs
+bare_taken n bs old new some small plain cut free place word words =
+    let before : scan bs old.place (string_bytes old.word) ≡ scan bs Between [] = ap (λ p. scan bs p (string_bytes old.word)) free.0 ∙ ap (scan bs Between) free.1 in
+    let after : scan (drop n bs) new.place (string_bytes new.word) ≡ scan (drop n bs) Between [] =
+    ap (λ p. scan (drop n bs) p (string_bytes new.word)) (place ∙ free.0) ∙ ap (scan (drop n bs) Between) (ap string_bytes word ∙ free.1) in
+    let run = scan_plain n bs [] Between Bare some small plain refl refl ∙ cut_step (drop n bs) (take n bs) cut in
+    let front_old = front (map cow_str_bytes old.words.items) in
+    ap (front (map cow_str_bytes new.words.items)) after
+    ∙ (ap (λ ws. front ws (scan (drop n bs) Between [])) words
+    ∙ (front_more (map cow_str_bytes old.words.items) (take n bs ∷ []) (scan (drop n bs) Between [])
+    ∙ (sym (ap front_old run) ∙ sym (ap front_old before))))
+
+-- plain bytes are text
+plain_small : (b : ℕ) → is_plain b ≡ true → b < 128
+plain_small b plain = grind (rules, arith)
+
+pub plain_text : (bs : List ℕ) → ((k : ℕ) → k < length bs → is_plain (get_or bs k 0) ≡ true) → IsUtf8 bs
+plain_text bs plain = IsUtf8-from_ascii bs (λ i. elim (cases_lt i (length bs)) [
+  | inl within ↦ plain_small (get_or bs i 0) (plain i within)
+  | inr behind ↦ let none : get_or bs i 0 ≡ 0 = get_or-eq_default bs 0 behind in omega (arith, none)
+])

@@ -1,5 +1,6 @@
 -- What the words of a line ask for.
-use Rattle.std.specs.Prelude.{◌≡◌, ℕ, ◌<◌, List, [], ◌∷◌, length, map, string_bytes, codes}
+use Rattle.std.specs.Prelude.{◌≡◌, ℕ, ◌<◌, List, [], ◌∷◌, length, map, codes}
+use Rattle.std.specs.Cow.{cow_str_bytes}
 use Rattle.script.specs.declared.command.Command.{Command}
 use Rattle.script.specs.declared.command.Command.TheVariants as code
 
@@ -21,16 +22,16 @@ pub data Action : Type 0 where
 
 -- the program's command as such
 abbrev pub action_of : Command → Action
-action_of (code.Insert table cells) = insert (string_bytes table) (map string_bytes cells.items)
-action_of (code.Update table cells) = update (string_bytes table) (map string_bytes cells.items)
-action_of (code.Delete table key) = delete (string_bytes table) (string_bytes key)
+action_of (code.Insert table cells) = insert (cow_str_bytes table) (map cow_str_bytes cells.items)
+action_of (code.Update table cells) = update (cow_str_bytes table) (map cow_str_bytes cells.items)
+action_of (code.Delete table key) = delete (cow_str_bytes table) (cow_str_bytes key)
 action_of code.Fence = fence
-action_of (code.Try view key) = try (string_bytes view) (string_bytes key)
-action_of (code.Read view key) = read (string_bytes view) (string_bytes key)
-action_of (code.Closing view key) = closing (string_bytes view) (string_bytes key)
-action_of (code.EvictStage key) = evict_stage (string_bytes key)
-action_of (code.EvictView view key) = evict_view (string_bytes view) (string_bytes key)
-action_of (code.Count view) = count (string_bytes view)
+action_of (code.Try view key) = try (cow_str_bytes view) (cow_str_bytes key)
+action_of (code.Read view key) = read (cow_str_bytes view) (cow_str_bytes key)
+action_of (code.Closing view key) = closing (cow_str_bytes view) (cow_str_bytes key)
+action_of (code.EvictStage key) = evict_stage (cow_str_bytes key)
+action_of (code.EvictView view key) = evict_view (cow_str_bytes view) (cow_str_bytes key)
+action_of (code.Count view) = count (cow_str_bytes view)
 
 -- the forms of commands, each after its name: `insert TABLE CELL..`, `update TABLE CELL..`,
 -- `delete TABLE KEY`, `fence`, `try VIEW KEY`, `read VIEW KEY`, `closing VIEW KEY`,

@@ -1,5 +1,6 @@
 -- The reader of words as a machine over lists. No public clause cites it.
-use Rattle.std.specs.Prelude.{ℕ, ◌==◌, cond, List, [], ◌∷◌, ◌++◌, Option, Some, None, map, string_bytes}
+use Rattle.std.specs.Prelude.{ℕ, Bool, not, ◌&&◌, ◌||◌, ◌==◌, cond, List, [], ◌∷◌, ◌++◌, Option, Some, None, map, string_bytes}
+use Rattle.std.specs.Cow.{cow_str_bytes}
 use Rattle.plan.specs.Kinds.{is_printed}
 use Rattle.script.specs.declared.words.Place.{Place}
 use Rattle.script.specs.declared.words.Place.TheVariants.{Between, Bare, Quoted, Escaped, Closed}
@@ -12,6 +13,10 @@ use Rattle.script.specs.declared.words.Reader.{Reader}
 -- what a byte may be in a line
 abbrev pub class_of : ℕ → ByteClass
 class_of b = cond (b == 32) Space (cond (b == 34) Mark (cond (b == 92) Backslash (cond (is_printed b) Plain Other)))
+
+-- whether a byte is plain
+abbrev pub is_plain : ℕ → Bool
+is_plain b = is_printed b && not (b == 32 || (b == 34 || b == 92))
 
 -- what a byte of the class does at the place
 abbrev pub step_at : Place → ByteClass → Step
@@ -59,4 +64,4 @@ scan (b ∷ bs) p word = follow (step_at p (class_of b)) b word (scan bs)
 
 -- the words that a reader gives once it has read the bytes
 abbrev pub gives : Reader → List ℕ → Option (List (List ℕ))
-gives r bs = front (map string_bytes r.words.items) (scan bs r.place (string_bytes r.word))
+gives r bs = front (map cow_str_bytes r.words.items) (scan bs r.place (string_bytes r.word))

@@ -1,6 +1,7 @@
 //! The words of a call as a row or a key: each is read by its column.
-ghost use Rattle.std.specs.Prelude.{◌≡◌, ◌<◌, length, map, string_bytes, IfOk};
+ghost use Rattle.std.specs.Prelude.{◌≡◌, ◌<◌, length, map, IfOk};
 ghost use Rattle.std.specs.Option.{ForSome};
+ghost use Rattle.std.specs.Cow.{cow_str_bytes};
 ghost use Rattle.row.specs.Cells.{Cells};
 ghost use Rattle.plan.specs.Layouts.{table_named};
 ghost use Rattle.script.specs.Columns.{IsRow, kind_of_column, kind_of_key, kind_of_stage_key, kind_of_table};
@@ -10,6 +11,7 @@ use plan::kinds::Kind;
 use plan::plan::Plan;
 use row::row::Row;
 use std::alloc::{AllocError, Global};
+use std::borrow::CowStr;
 
 /// The row that the words are in the table of this name: each word is read by its column, and is a
 /// text where there is no such column. Errors: memory only. A look at each name and each word.
@@ -17,12 +19,12 @@ pub fn row_of(
     alloc: Global,
     plan: &Plan,
     table: &str,
-    words: Vec<String>,
+    words: Vec<CowStr<'_>>,
 ) -> Result<Row, AllocError>
     ensures row { IfOk result (λ row. IsRow plan.now table.now
-        (map string_bytes words.items) row) }
+        (map cow_str_bytes words.entry.items) row) }
     ensures only { IfOk result (λ row. (other : Cells)
-        → IsRow plan.now table.now (map string_bytes words.items) other → other ≡ row) }
+        → IsRow plan.now table.now (map cow_str_bytes words.entry.items) other → other ≡ row) }
 {
     let table = plan.table_named(table);
     let mut cells = Vec::new(alloc);

@@ -1,14 +1,16 @@
 //! A reader of texts whose lines ask for something: a script, a schedule.
-ghost use Rattle.std.specs.Prelude.{◌≡◌, ℕ, ◌+◌, ◌<◌, ◌^◌, List, ◌++◌, length, map, string_bytes, Option, IfOk, IfSome, IsNone, OnOk, IsErrOf};
+ghost use Rattle.std.specs.Prelude.{◌≡◌, ℕ, ◌+◌, ◌<◌, ◌^◌, List, ◌++◌, length, map, Option, IfOk, IfSome, IsNone, OnOk, IsErrOf};
 ghost use Rattle.std.specs.Option.{option_map};
+ghost use Rattle.std.specs.Cow.{cow_str_bytes};
 ghost use Rattle.script.specs.Scripts.{lines_of, Says, numbered, call_at, IsScript, IsFault, HasFault};
 
 use crate::script::{Call, ScriptError, is_comment, split_line};
 use crate::words::{LineError, words};
 use std::alloc::{AllocError, Global};
+use std::borrow::CowStr;
 
 /// What the lines of a text may ask for.
-pub trait Form: Drop + Sized {
+pub trait Form<'t>: Drop + Sized {
     // What words ask for, as contracts see it.
     ghost Asked: { Type 0 };
 
@@ -20,16 +22,16 @@ pub trait Form: Drop + Sized {
 
     /// What the words ask for; none where they are of no form. Errors: memory only. Cost: a look at
     /// each word.
-    fn of_words(alloc: Global, words: Vec<String>) -> Result<Option<Self>, AllocError>
+    fn of_words(alloc: Global, words: Vec<CowStr<'t>>) -> Result<Option<Self>, AllocError>
         requires { 0 < length words.items }
         ensures some { IfOk result (λ found. IfSome found (λ value.
-            asks (map string_bytes words.items) (asked value))) }
+            asks (map cow_str_bytes words.entry.items) (asked value))) }
         ensures none { IfOk result (λ found. IsNone found → (a : Asked)
-            → ¬ asks (map string_bytes words.items) a) };
+            → ¬ asks (map cow_str_bytes words.entry.items) a) };
 }
 
 // What a line asks for, if it isn't skipped.
-fn line_of<F: Form>(alloc: Global, line: &[u8]) -> Result<Option<F>, LineError>
+fn line_of<'t, F: Form<'t>>(alloc: Global, line: &'t [u8]) -> Result<Option<F>, LineError>
     ensures said { IfOk result (λ found. Says F.asks line.now (option_map F.asked found)) }
     ensures fault { IsErrOf result LineError.BadLine → IsFault F.asks line.now }
 {
@@ -53,8 +55,8 @@ struct Reader<F> {
     lines: usize,
 }
 
-impl<F: Form> Reader<F> {
-    fn take(&mut self, alloc: Global, line: &[u8]) -> Result<(), ScriptError>
+impl<'t, F: Form<'t>> Reader<F> {
+    fn take(&mut self, alloc: Global, line: &'t [u8]) -> Result<(), ScriptError>
         requires { self.old.lines + 1 < 2 ^ 64 }
         ensures lines { OnOk result (self.new.lines ≡ self.old.lines + 1) }
         ensures calls { OnOk result ((said : Option F.Asked) × Says F.asks line.now said
@@ -66,13 +68,15 @@ impl<F: Form> Reader<F> {
     {
         let number = self.lines + 1;
         match line_of(alloc, line) {
-            Ok(Some(command)) => self
-                .calls
-                .push(Call {
+            Ok(Some(command)) => {
+                let call = Call {
                     line: number,
                     command,
-                })
-                .map_err(|_| ScriptError::NoMemory)?,
+                };
+                if self.calls.push(call).is_err() {
+                    return Err(ScriptError::NoMemory);
+                }
+            }
             Ok(None) => {}
             Err(LineError::NoMemory) => return Err(ScriptError::NoMemory),
             Err(LineError::BadLine) => return Err(ScriptError::BadScript { line: number }),
@@ -84,8 +88,11 @@ impl<F: Form> Reader<F> {
 
 /// What the lines of a text ask for, in order, with the numbers of the lines. `BadScript` names the
 /// first line that is neither skipped nor of a form; else only memory is refused. Cost: a look at
-/// each byte, and a copy of the words.
-pub fn read_lines<F: Form>(alloc: Global, text: &[u8]) -> Result<Vec<Call<F>>, ScriptError>
+/// each byte. Bare words are not copied.
+pub fn read_lines<'t, F: Form<'t>>(
+    alloc: Global,
+    text: &'t [u8],
+) -> Result<Vec<Call<F>>, ScriptError>
     ensures ok { IfOk result (λ calls. IsScript F.asks 1 (lines_of text.now)
         (map (numbered F.asked) calls.items)) }
     ensures fault { (number : ℕ) → IsErrOf result (ScriptError.BadScript number)

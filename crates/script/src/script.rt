@@ -33,10 +33,13 @@ impl ScriptError {
 
 /// A call: the number of its line, from 1, and its command.
 #[derive(Drop)]
-pub struct Call<C = Command> {
+pub struct Call<C> {
     pub line: usize,
     pub command: C,
 }
+
+/// A call of a script, whose bare words are those of the text.
+pub type ScriptCall<'t> = Call<Command<'t>>;
 
 // How many bytes stand in front of the first line feed.
 fn line_length(text: &[u8]) -> usize
@@ -80,9 +83,9 @@ pub fn lines_are_the_text()
 {}
 
 /// The calls of a script, in order, with the numbers of their lines. `BadScript` names the first
-/// line that is neither skipped nor a call; else only memory is refused. Cost: a look at each byte,
-/// and a copy of the words.
-pub fn read_script(alloc: Global, text: &[u8]) -> Result<Vec<Call>, ScriptError>
+/// line that is neither skipped nor a call; else only memory is refused. Cost: a look at each byte.
+/// Bare words are not copied.
+pub fn read_script<'t>(alloc: Global, text: &'t [u8]) -> Result<Vec<ScriptCall<'t>>, ScriptError>
     ensures ok { IfOk result (λ calls. AreOnlyCalls Asks (lines_of text.now)
         (map (numbered action_of) calls.items)) }
     ensures fault { (number : ℕ) → IsErrOf result (ScriptError.BadScript number)

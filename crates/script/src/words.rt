@@ -1,8 +1,10 @@
 //! The words of one line.
-ghost use Rattle.std.specs.Prelude.{◌≡◌, ℕ, List, [], ◌∷◌, map, string_bytes, IfOk, OnOk, IsErrOf, Some, None};
-ghost use Rattle.script.specs.{Words.IsLine, Machine.class_of as byte_class, Machine.step_at, Machine.gives, declared.words.LineError.TheVariants.NoMemory};
+ghost use Rattle.std.specs.Prelude.{◌≡◌, ◌<◌, ◌≤◌, ℕ, List, [], ◌∷◌, length, map, slice_index, string_bytes, true, IfOk, IfErr, IsTrue, OnOk, IsErrOf, Some, None};
+ghost use Rattle.std.specs.Cow.{cow_str_bytes};
+ghost use Rattle.script.specs.{Words.IsCut, Words.IsLine, Machine.class_of as byte_class, Machine.is_plain, Machine.step_at, Machine.gives, declared.words.LineError.TheVariants.NoMemory};
 
 use std::alloc::{AllocError, AllocFailed, Global};
+use std::borrow::CowStr;
 use std::mem;
 use thiserror::Error;
 
@@ -55,6 +57,40 @@ impl ByteClass {
     }
 }
 
+// Whether a byte is plain.
+fn is_plain(byte: u8) -> bool
+    ensures { result ≡ is_plain byte }
+{
+    matches!(byte, 0x21..=0x7e) && byte != b'"' && byte != b'\\'
+}
+
+// How many plain bytes stand in front of the first other.
+fn plain_length(bytes: &[u8]) -> usize
+    ensures within { result ≤ length bytes.now }
+    ensures plain { (k : ℕ) → k < result → is_plain (slice_index bytes.now k) ≡ true }
+{
+    bytes
+        .iter()
+        .position(|byte| !is_plain(*byte))
+        .unwrap_or(bytes.len())
+}
+
+// Whether a word ends in front of the bytes: there are none, or a space comes first.
+fn is_cut(bytes: &[u8]) -> bool
+    ensures { IsTrue result → IsCut bytes.now }
+{
+    matches!(bytes, [] | [b' ', ..])
+}
+
+// Plain bytes as a text.
+#[tactic(auto, using(crate::proofs::Scan::plain_text))]
+fn text_of(plain: &[u8]) -> &str
+    requires { (k : ℕ) → k < length plain.now → is_plain (slice_index plain.now k) ≡ true }
+    ensures { result.now ≡ plain.now }
+{
+    str::from_utf8(plain).unwrap_or("")
+}
+
 // Where a reader stands: between words, in a bare word, between quotation marks, behind a
 // backslash there, or right behind the second mark.
 #[derive(Clone, Copy)]
@@ -97,14 +133,14 @@ impl Place {
 
 // The words so far, and the front of the next.
 #[derive(Drop)]
-struct Reader {
+struct Reader<'t> {
     place: Place,
     word: String,
-    words: Vec<String>,
+    words: Vec<CowStr<'t>>,
 }
 
-impl Reader {
-    fn new(alloc: Global) -> Reader
+impl<'t> Reader<'t> {
+    fn new(alloc: Global) -> Reader<'t>
         ensures place { result.place ≡ Place.Between }
         ensures word { string_bytes result.word ≡ [] }
         ensures words { result.words.items ≡ [] }
@@ -114,6 +150,39 @@ impl Reader {
             word: String::new(alloc),
             words: Vec::new(alloc),
         }
+    }
+
+    // Whether a word may begin.
+    fn is_between(&self) -> bool
+        ensures { IsTrue result → (self.now.place ≡ Place.Between)
+            × (string_bytes self.now.word ≡ []) }
+    {
+        match self.place {
+            Place::Between => self.word.is_empty(),
+            _ => false,
+        }
+    }
+
+    // Takes a bare word in front, where a word may begin, and gives what is behind it. It is not
+    // copied.
+    fn take_bare(&mut self, bytes: &'t [u8]) -> Result<&'t [u8], LineError>
+        ensures rest { IfOk result (λ rest. gives self.new rest.now ≡ gives self.old bytes.now) }
+        ensures shorter { IfOk result (λ rest. length rest.now ≤ length bytes.now) }
+        ensures only { IfErr result (λ e. e ≡ NoMemory) }
+    {
+        if !self.is_between() {
+            return Ok(bytes);
+        }
+        let length = plain_length(bytes);
+        if length == 0 {
+            return Ok(bytes);
+        }
+        let (word, rest) = bytes.split_at(length);
+        if !is_cut(rest) {
+            return Ok(bytes);
+        }
+        self.words.push(CowStr::Borrowed(text_of(word)))?;
+        Ok(rest)
     }
 
     fn take(&mut self, alloc: Global, byte: u8) -> Result<(), LineError>
@@ -130,7 +199,7 @@ impl Reader {
             }
             Step::End(place) => {
                 let word = mem::replace(&mut self.word, String::new(alloc));
-                self.words.push(word)?;
+                self.words.push(CowStr::Owned(word))?;
                 self.place = place;
             }
             Step::Fault => return Err(LineError::BadLine),
@@ -138,9 +207,9 @@ impl Reader {
         Ok(())
     }
 
-    fn finish(self) -> Result<Vec<String>, LineError>
-        ensures ok { IfOk result (λ words. gives self [] ≡ Some (map string_bytes words.items)) }
-        ensures fault { IsErrOf result LineError.BadLine → gives self [] ≡ None }
+    fn finish(self) -> Result<Vec<CowStr<'t>>, LineError>
+        ensures ok { IfOk result (λ words. gives self.entry [] ≡ Some (map cow_str_bytes words.items)) }
+        ensures fault { IsErrOf result LineError.BadLine → gives self.entry [] ≡ None }
     {
         let Reader {
             place,
@@ -150,7 +219,7 @@ impl Reader {
         match place {
             Place::Between | Place::Closed => Ok(words),
             Place::Bare => {
-                words.push(word)?;
+                words.push(CowStr::Owned(word))?;
                 Ok(words)
             }
             Place::Quoted | Place::Escaped => Err(LineError::BadLine),
@@ -159,18 +228,20 @@ impl Reader {
 }
 
 /// The words of a line, in order, each by its content. `BadLine`: the line has no words in any
-/// reading; else only memory is refused. Cost: a look at each byte, and a copy of it.
+/// reading; else only memory is refused. Cost: a look at each byte. A bare word is not copied.
 #[tactic(auto, using(crate::proofs::Scan::front_nil))]
-pub fn words(alloc: Global, line: &[u8]) -> Result<Vec<String>, LineError>
-    ensures ok { IfOk result (λ found. IsLine line.now (map string_bytes found.items)) }
+pub fn words<'t>(alloc: Global, line: &'t [u8]) -> Result<Vec<CowStr<'t>>, LineError>
+    ensures ok { IfOk result (λ found. IsLine line.now (map cow_str_bytes found.items)) }
     ensures only { IfOk result (λ found. (others : List (List ℕ)) → IsLine line.now others → others
-        ≡ map string_bytes found.items) }
+        ≡ map cow_str_bytes found.items) }
     ensures fault { IsErrOf result LineError.BadLine → (others : List (List ℕ))
         → IsLine line.now others → ⊥ }
 {
     let mut reader = Reader::new(alloc);
-    for byte in line {
+    let mut rest = reader.take_bare(line)?;
+    while let [byte, more @ ..] = rest {
         reader.take(alloc, *byte)?;
+        rest = reader.take_bare(more)?;
     }
     reader.finish()
 }

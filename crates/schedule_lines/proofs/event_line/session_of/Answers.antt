@@ -8,9 +8,9 @@ use Rattle.schedule_lines.specs.Asks.{session_limit}
 pub returns-in-Some : goal.returns-in-Some
 returns-in-Some c =
     let number = c.in-Some.number in
-    let is = rw c.in-Some.is at c.in_ok-number.ensures in
+    let is = rw c.in-Some.is at c.number_of.ensures in
     let found = subst (λ z. MatchOption c.session_in.result ((n : ℕ) → n < session_limit → z ≢ pos n) (λ n. (n < session_limit) × (z ≡ pos n))) (to_z-of_z w64 number (small_fits number is.0)) c.session_in.ensures in
     session_found c.args.word.now number c.session_in.result is found
 
 pub returns-in-None : goal.returns-in-None
-returns-in-None c = λ n is. session_never c.args.word.now (rw c.in-None.is at c.in_ok-number.ensures) n is
+returns-in-None c = λ n is. session_never c.args.word.now (rw c.in-None.is at c.number_of.ensures) n is
