@@ -6,7 +6,6 @@ ghost use Rattle.schedule_lines.specs.Asks.{Ask, Asks, Calls, IsOrder, IsSession
 use script::cell::number_of;
 use script::command::Command;
 use script::reader::Form;
-use std::alloc::{AllocError, Global};
 use std::borrow::CowStr;
 
 /// The greatest number of a session in a line, whether there is such a session or not.
@@ -73,18 +72,13 @@ impl<'t> Form<'t> for EventLine<'t> {
 
     ghost asks = { Asks };
 
-    fn of_words(
-        _alloc: Global,
-        mut words: Vec<CowStr<'t>>,
-    ) -> Result<Option<EventLine<'t>>, AllocError> {
+    fn of_words(mut words: Vec<CowStr<'t>>) -> Option<EventLine<'t>> {
         let Some(session) = session_of(words[0].as_str()) else {
-            return Ok(order(words));
+            return order(words);
         };
         let _session = words.remove(0);
-        let Some(call) = call(words) else {
-            return Ok(None);
-        };
-        Ok(Some(EventLine::Call { session, call }))
+        let call = call(words)?;
+        Some(EventLine::Call { session, call })
     }
 }
 
@@ -175,8 +169,10 @@ fn want<'t>(mut words: Vec<CowStr<'t>>) -> Option<CallWords<'t>>
 /// What words that begin with no session's number ask for.
 fn order<'t>(words: Vec<CowStr<'t>>) -> Option<EventLine<'t>>
     requires { 0 < length words.items }
-    ensures some { IfSome result (λ line. IsOrder (map cow_str_bytes words.entry.items) (ask_of line)) }
-    ensures none { IsNone result → (ask : Ask) → ¬ IsOrder (map cow_str_bytes words.entry.items) ask }
+    ensures some { IfSome result (λ line. IsOrder (map cow_str_bytes words.entry.items)
+        (ask_of line)) }
+    ensures none { IsNone result → (ask : Ask)
+        → ¬ IsOrder (map cow_str_bytes words.entry.items) ask }
 {
     if words.len() < 3 {
         return short_order(words);
@@ -192,8 +188,10 @@ fn order<'t>(words: Vec<CowStr<'t>>) -> Option<EventLine<'t>>
 fn short_order<'t>(mut words: Vec<CowStr<'t>>) -> Option<EventLine<'t>>
     requires some { 0 < length words.items }
     requires few { length words.items < 3 }
-    ensures some { IfSome result (λ line. IsOrder (map cow_str_bytes words.entry.items) (ask_of line)) }
-    ensures none { IsNone result → (ask : Ask) → ¬ IsOrder (map cow_str_bytes words.entry.items) ask }
+    ensures some { IfSome result (λ line. IsOrder (map cow_str_bytes words.entry.items)
+        (ask_of line)) }
+    ensures none { IsNone result → (ask : Ask)
+        → ¬ IsOrder (map cow_str_bytes words.entry.items) ask }
 {
     let name = words.remove(0);
     match (name.as_str(), words.pop()) {

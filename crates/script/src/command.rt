@@ -4,7 +4,6 @@ ghost use Rattle.std.specs.Cow.{cow_str_bytes};
 ghost use Rattle.script.specs.Commands.{Action, action_of, Asks};
 
 use crate::reader::Form;
-use std::alloc::{AllocError, Global};
 use std::borrow::CowStr;
 
 /// What a line of a script asks for.
@@ -116,8 +115,8 @@ impl<'t> Form<'t> for Command<'t> {
 
     ghost asks = { Asks };
 
-    fn of_words(_alloc: Global, words: Vec<CowStr<'t>>) -> Result<Option<Command<'t>>, AllocError> {
-        Ok(Command::of(words))
+    fn of_words(words: Vec<CowStr<'t>>) -> Option<Command<'t>> {
+        Command::of(words)
     }
 }
 

@@ -6,7 +6,7 @@ ghost use Rattle.script.specs.Scripts.{lines_of, Says, numbered, call_at, IsScri
 
 use crate::script::{Call, ScriptError, is_comment, split_line};
 use crate::words::{LineError, words};
-use std::alloc::{AllocError, Global};
+use std::alloc::Global;
 use std::borrow::CowStr;
 
 /// What the lines of a text may ask for.
@@ -20,14 +20,14 @@ pub trait Form<'t>: Drop + Sized {
     // The words ask for it.
     ghost asks: { List (List ℕ) → Asked → Type 0 };
 
-    /// What the words ask for; none where they are of no form. Errors: memory only. Cost: a look at
+    /// What the words ask for; none where they are of no form. Takes no memory. Cost: a look at
     /// each word.
-    fn of_words(alloc: Global, words: Vec<CowStr<'t>>) -> Result<Option<Self>, AllocError>
+    fn of_words(words: Vec<CowStr<'t>>) -> Option<Self>
         requires { 0 < length words.items }
-        ensures some { IfOk result (λ found. IfSome found (λ value.
-            asks (map cow_str_bytes words.entry.items) (asked value))) }
-        ensures none { IfOk result (λ found. IsNone found → (a : Asked)
-            → ¬ asks (map cow_str_bytes words.entry.items) a) };
+        ensures some { IfSome result (λ value. asks (map cow_str_bytes words.entry.items)
+            (asked value)) }
+        ensures none { IsNone result → (a : Asked)
+            → ¬ asks (map cow_str_bytes words.entry.items) a };
 }
 
 // What a line asks for, if it isn't skipped.
@@ -42,7 +42,7 @@ fn line_of<'t, F: Form<'t>>(alloc: Global, line: &'t [u8]) -> Result<Option<F>, 
     if words.is_empty() {
         return Ok(None);
     }
-    match F::of_words(alloc, words)? {
+    match F::of_words(words) {
         Some(asked) => Ok(Some(asked)),
         None => Err(LineError::BadLine),
     }

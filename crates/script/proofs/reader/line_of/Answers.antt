@@ -18,4 +18,4 @@ returns-in_err-words-clause-fault g c = λ is.
 pub returns-in-None-clause-fault : goal.returns-in-None-clause-fault
 returns-in-None-clause-fault g c = λ _.
     let some = eqb-false (vec_len c.in_ok-words.words) 0 (sym c.if-is_empty.ensures) in
-    formless g.F.Form.asks c.args.line.now _ (iff_false c.is_comment.ensures c.if-is_comment.false) c.in_ok-words.ensures.ok (simp length-map (grind (arith, common_steps))) (c.in_ok-asked.ensures.none (ap is_some c.in-None.is))
+    formless g.F.Form.asks c.args.line.now _ (iff_false c.is_comment.ensures c.if-is_comment.false) c.in_ok-words.ensures.ok (simp length-map (grind (arith, common_steps))) (c.of_words.ensures.none (ap is_some c.in-None.is))
