@@ -22,8 +22,9 @@ use std::alloc::{AllocError, Global};
 use std::borrow::CowStr;
 
 /// The events that lines ask for over the plan, in order: each cell and key is read by its column,
-/// each edge and domain is the plan's of that text. Errors: memory only. Cost: a look at each word;
-/// for a `deliver` and a `stop` the text of each edge or domain of the plan.
+/// each edge and domain is the plan's of that text. Errors: memory only. Cost: a look at each word
+/// and a copy of each that is kept; for a `deliver` and a `stop` the text of each edge or domain of
+/// the plan.
 pub fn events_of(alloc: Global, plan: &Plan, lines: Vec<Line<'_>>) -> Result<Vec<Event>, AllocError>
     ensures events { IfOk result (λ events. AreEvents plan.now (map numbered lines.entry.items)
         (map event_of events.items)) }
@@ -38,8 +39,9 @@ pub fn events_of(alloc: Global, plan: &Plan, lines: Vec<Line<'_>>) -> Result<Vec
     Ok(events)
 }
 
-/// The event that a line asks for over the plan. Errors: memory only. Cost: a look at each word;
-/// for a `deliver` and a `stop` the text of each edge or domain of the plan.
+/// The event that a line asks for over the plan. Errors: memory only. Cost: a look at each word and
+/// a copy of each that is kept; for a `deliver` and a `stop` the text of each edge or domain of the
+/// plan.
 pub fn event_of(alloc: Global, plan: &Plan, line: EventLine<'_>) -> Result<Event, AllocError>
     ensures { IfOk result (λ event. IsEvent plan.now (ask_of line.entry) (event_of event)) }
 {
@@ -64,7 +66,8 @@ fn call_of(
     session: usize,
     call: CallWords<'_>,
 ) -> Result<Event, AllocError>
-    ensures { IfOk result (λ event. IsEvent plan.now (called_by session call.entry) (event_of event)) }
+    ensures { IfOk result (λ event. IsEvent plan.now (called_by session call.entry)
+        (event_of event)) }
 {
     match call {
         CallWords::Write { table, entry } => {

@@ -12,8 +12,7 @@ use std::alloc::Global;
 pub type Line<'t> = Call<EventLine<'t>>;
 
 /// What the lines of a schedule ask for, in order. Errors: `BadScript` with the first line that is
-/// neither skipped nor of a known form, and memory. A look at each byte. Bare words are
-/// not copied.
+/// neither skipped nor of a known form, and memory. A look at each byte. Bare words are not copied.
 pub fn read_schedule<'t>(alloc: Global, text: &'t [u8]) -> Result<Vec<Line<'t>>, ScriptError>
     ensures ok { IfOk result (λ asked. IsScript Asks 1 (lines_of text.now)
         (map numbered asked.items)) }

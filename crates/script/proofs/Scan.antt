@@ -502,10 +502,10 @@ bare_taken n bs old new some small plain cut free place word words =
     ∙ (front_more (map cow_str_bytes old.words.items) (take n bs ∷ []) (scan (drop n bs) Between [])
     ∙ (sym (ap front_old run) ∙ sym (ap front_old before))))
 
--- plain bytes are text
 plain_small : (b : ℕ) → is_plain b ≡ true → b < 128
 plain_small b plain = grind (rules, arith)
 
+-- plain bytes are text
 pub plain_text : (bs : List ℕ) → ((k : ℕ) → k < length bs → is_plain (get_or bs k 0) ≡ true) → IsUtf8 bs
 plain_text bs plain = IsUtf8-from_ascii bs (λ i. elim (cases_lt i (length bs)) [
   | inl within ↦ plain_small (get_or bs i 0) (plain i within)

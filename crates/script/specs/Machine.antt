@@ -1,6 +1,7 @@
 -- The reader of words as a machine over lists. No public clause cites it.
 use Rattle.std.specs.Prelude.{ℕ, Bool, not, ◌&&◌, ◌||◌, ◌==◌, cond, List, [], ◌∷◌, ◌++◌, Option, Some, None, map, string_bytes}
 use Rattle.std.specs.Cow.{cow_str_bytes}
+use Rattle.row.specs.Printed.{is_escaped}
 use Rattle.plan.specs.Kinds.{is_printed}
 use Rattle.script.specs.declared.words.Place.{Place}
 use Rattle.script.specs.declared.words.Place.TheVariants.{Between, Bare, Quoted, Escaped, Closed}
@@ -16,7 +17,7 @@ class_of b = cond (b == 32) Space (cond (b == 34) Mark (cond (b == 92) Backslash
 
 -- whether a byte is plain
 abbrev pub is_plain : ℕ → Bool
-is_plain b = is_printed b && not (b == 32 || (b == 34 || b == 92))
+is_plain b = is_printed b && not (b == 32 || is_escaped b)
 
 -- what a byte of the class does at the place
 abbrev pub step_at : Place → ByteClass → Step

@@ -17,8 +17,8 @@ use std::borrow::CowStr;
 #[tactic(auto, using(crate::proofs::Numbers::read_once))]
 pub fn value_of(alloc: Global, kind: Kind, word: CowStr<'_>) -> Result<Value, AllocError>
     ensures read { IfOk result (λ value. IsRead kind (cow_str_bytes word.entry) (datum_of value)) }
-    ensures only { IfOk result (λ value. (other : Datum) → IsRead kind (cow_str_bytes word.entry) other
-        → other ≡ datum_of value) }
+    ensures only { IfOk result (λ value. (other : Datum)
+        → IsRead kind (cow_str_bytes word.entry) other → other ≡ datum_of value) }
 {
     if let Kind::Int = kind
         && let Some(number) = number_of(word.as_str())

@@ -14,7 +14,8 @@ use std::alloc::{AllocError, Global};
 use std::borrow::CowStr;
 
 /// The row that the words are in the table of this name: each word is read by its column, and is a
-/// text where there is no such column. Errors: memory only. A look at each name and each word.
+/// text where there is no such column. Errors: memory only. A look at each name and each word, and
+/// a copy of the texts that are borrowed.
 pub fn row_of(
     alloc: Global,
     plan: &Plan,

@@ -1,5 +1,5 @@
 //! The words of one line.
-ghost use Rattle.std.specs.Prelude.{◌≡◌, ◌<◌, ◌≤◌, ℕ, List, [], ◌∷◌, length, map, slice_index, string_bytes, true, IfOk, IfErr, IsTrue, OnOk, IsErrOf, Some, None};
+ghost use Rattle.std.specs.Prelude.{◌≡◌, ◌<◌, ◌≤◌, ◌↔◌, ℕ, List, [], ◌∷◌, length, map, slice_index, string_bytes, true, false, IfOk, IfErr, IsTrue, OnOk, IsErrOf, Some, None};
 ghost use Rattle.std.specs.Cow.{cow_str_bytes};
 ghost use Rattle.script.specs.{Words.IsCut, Words.IsLine, Machine.class_of as byte_class, Machine.is_plain, Machine.step_at, Machine.gives, declared.words.LineError.TheVariants.NoMemory};
 
@@ -61,13 +61,14 @@ impl ByteClass {
 fn is_plain(byte: u8) -> bool
     ensures { result ≡ is_plain byte }
 {
-    matches!(byte, 0x21..=0x7e) && byte != b'"' && byte != b'\\'
+    matches!(ByteClass::of(byte), ByteClass::Plain)
 }
 
 // How many plain bytes stand in front of the first other.
 fn plain_length(bytes: &[u8]) -> usize
     ensures within { result ≤ length bytes.now }
     ensures plain { (k : ℕ) → k < result → is_plain (slice_index bytes.now k) ≡ true }
+    ensures found { result < length bytes.now → is_plain (slice_index bytes.now result) ≡ false }
 {
     bytes
         .iter()
@@ -77,7 +78,7 @@ fn plain_length(bytes: &[u8]) -> usize
 
 // Whether a word ends in front of the bytes: there are none, or a space comes first.
 fn is_cut(bytes: &[u8]) -> bool
-    ensures { IsTrue result → IsCut bytes.now }
+    ensures { IsTrue result ↔ IsCut bytes.now }
 {
     matches!(bytes, [] | [b' ', ..])
 }
@@ -154,7 +155,7 @@ impl<'t> Reader<'t> {
 
     // Whether a word may begin.
     fn is_between(&self) -> bool
-        ensures { IsTrue result → (self.now.place ≡ Place.Between)
+        ensures { IsTrue result ↔ (self.now.place ≡ Place.Between)
             × (string_bytes self.now.word ≡ []) }
     {
         match self.place {
@@ -164,7 +165,7 @@ impl<'t> Reader<'t> {
     }
 
     // Takes a bare word in front, where a word may begin, and gives what is behind it. It is not
-    // copied.
+    // copied. One that no cut follows is left to `take`, which refuses the byte behind it.
     fn take_bare(&mut self, bytes: &'t [u8]) -> Result<&'t [u8], LineError>
         ensures rest { IfOk result (λ rest. gives self.new rest.now ≡ gives self.old bytes.now) }
         ensures shorter { IfOk result (λ rest. length rest.now ≤ length bytes.now) }
@@ -208,7 +209,8 @@ impl<'t> Reader<'t> {
     }
 
     fn finish(self) -> Result<Vec<CowStr<'t>>, LineError>
-        ensures ok { IfOk result (λ words. gives self.entry [] ≡ Some (map cow_str_bytes words.items)) }
+        ensures ok { IfOk result (λ words. gives self.entry []
+            ≡ Some (map cow_str_bytes words.items)) }
         ensures fault { IsErrOf result LineError.BadLine → gives self.entry [] ≡ None }
     {
         let Reader {
