@@ -15,15 +15,15 @@ pub fn plan_named<T: Texts>(alloc: Global, recipe: &str, texts: &mut T) -> Resul
     Ok(from_bytes(alloc, text.as_slice())?)
 }
 
-/// The texts of the scripts of these names up to the first that cannot be read, and the refusal of
-/// that one.
+/// The texts of scripts up to the first that cannot be read, and why that one cannot.
 #[derive(Drop)]
 pub struct ScriptTexts {
     pub texts: Vec<Vec<u8>>,
-    pub unread: Result<(), Refused>,
+    pub refusal: Option<Refused>,
 }
 
-/// Reads the scripts of these names, up to the first that cannot be read. Errors: memory.
+/// Reads the scripts of these names, up to the first that cannot be read, be it for want of memory.
+/// Errors: memory for the list of texts.
 pub fn texts_of_all<T: Texts>(
     alloc: Global,
     scripts: &[String],
@@ -31,13 +31,13 @@ pub fn texts_of_all<T: Texts>(
 ) -> Result<ScriptTexts, AllocError> {
     let mut read = ScriptTexts {
         texts: Vec::with_capacity(alloc, scripts.len())?,
-        unread: Ok(()),
+        refusal: None,
     };
     for script in scripts {
         match texts.text(script.as_str()) {
             Ok(text) => read.texts.push(text)?,
             Err(refused) => {
-                read.unread = Err(refused);
+                read.refusal = Some(refused);
                 break;
             }
         }
@@ -52,11 +52,11 @@ pub fn calls_of_all<'t, R: Threads + Sync>(
     alloc: Global,
     texts: &'t [Vec<u8>],
 ) -> Result<Vec<Vec<ScriptCall<'t>>>, Fault> {
-    let mut unread = Vec::with_capacity(alloc, texts.len())?;
+    let mut slices = Vec::with_capacity(alloc, texts.len())?;
     for text in texts {
-        unread.push(text.as_slice()).map_err(|_| Refused::NoMemory)?;
+        slices.push(text.as_slice()).map_err(|_| Refused::NoMemory)?;
     }
-    let read = thread::map_vec(rt, unread, &|text| read_script(alloc, text))?;
+    let read = thread::map_vec(rt, slices, &|text| read_script(alloc, text))?;
     let mut all = Vec::new(alloc);
     for calls in read {
         all.push(calls?).map_err(|_| Refused::NoMemory)?;

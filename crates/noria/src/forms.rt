@@ -43,8 +43,10 @@ pub fn race_files<R: Threads + Wait + Copy + Drop + Send + Sync + 'static, T: Te
     let plan = plan_named(alloc, recipe, texts)?;
     let read = texts_of_all(alloc, scripts, texts)?;
     let all = calls_of_all(&rt, alloc, &read.texts)?;
-    read.unread?;
-    Ok(start(rt, alloc, plan, Play::Race(all), out)?)
+    match read.refusal {
+        Some(refused) => Err(Fault::Refused(refused)),
+        None => Ok(start(rt, alloc, plan, Play::Race(all), out)?),
+    }
 }
 
 /// Reads and checks the recipe and then the schedule of these names, and runs the schedule in one
