@@ -124,12 +124,19 @@ impl<T: Drop> Inbox<T> {
         match self.push(rt, edge, message) {
             Ok(first) => {
                 if first {
-                    self.moved.notify_one();
+                    self.wake();
                 }
                 Ok(())
             }
             Err(unsent) => Err(unsent),
         }
+    }
+
+    // Tells the taker that a message waits. Whoever calls this has given back the lock: a taker that
+    // looks takes it at once.
+    fn wake(&self) {
+        self.ready.store(true, Ordering::SeqCst);
+        self.moved.notify_one();
     }
 
     /// Whether 4096 messages or more waited at the last put, and none was taken since. It takes no
@@ -144,7 +151,7 @@ impl<T: Drop> Inbox<T> {
         give_way(&self.crowded);
     }
 
-    // The lock is free again before the taker wakes.
+    // Whether the message is the first that waits. The lock is free again before the taker is told.
     fn push<R: Wait>(&self, rt: &R, edge: usize, message: T) -> Result<bool, Unsent<T>>
         ensures back { IfErr result (λ u. u.message ≡ message) }
         ensures only { IfErr result (λ u. (u.refused ≡ Refused.NoMemory)
@@ -152,25 +159,22 @@ impl<T: Drop> Inbox<T> {
     {
         let mut line = self.line.lock(rt);
         let put = line.put(edge, message);
-        if matches!(put, Ok(true)) {
-            self.ready.store(true, Ordering::SeqCst);
-        }
         if line.is_crowded() {
             self.crowded.store(true, Ordering::SeqCst);
         }
         put
     }
 
-    /// Whether a message waits, or the inbox is closed. It takes no lock.
+    /// Whether the taker was told of a message that waits, or the inbox is closed. It takes no lock.
     pub fn is_ready(&self) -> bool {
         self.ready.load(Ordering::SeqCst)
     }
 
     /// Swaps the queues of the caller for those that are filled. Queues that still hold a message
-    /// stay as they are: what was taken first comes first. `Empty` where no message waits, `Closed`
-    /// once the inbox is closed and all of it was taken; the queues then stay, and are empty. It
-    /// waits for no message, takes no memory and copies no message. Cost: a look, one lock where
-    /// the inbox is ready, and linear in the edges.
+    /// stay as they are: what was taken first comes first. `Empty` where the taker was told of no
+    /// message, `Closed` once the inbox is closed and all of it was taken; the queues then stay, and
+    /// are empty. It waits for no message, takes no memory and copies no message. Cost: a look, one
+    /// lock where the inbox is ready, and linear in the edges.
     pub fn take_all<R: Wait>(&self, rt: &R, taken: &mut Queues<T>) -> Taking
         requires count { length taken.old ≡ self.now }
         ensures count { length taken.new ≡ length taken.old }
@@ -196,13 +200,8 @@ impl<T: Drop> Inbox<T> {
     /// Closes the inbox: what is in it can be taken, each later put is refused, and the taker
     /// wakes. It cannot be opened again. Cost: one lock.
     pub fn close<R: Wait>(&self, rt: &R) {
-        self.shut(rt);
-        self.moved.notify_all();
-    }
-
-    fn shut<R: Wait>(&self, rt: &R) {
-        let mut line = self.line.lock(rt);
-        line.close();
+        self.line.lock(rt).close();
         self.ready.store(true, Ordering::SeqCst);
+        self.moved.notify_all();
     }
 }
