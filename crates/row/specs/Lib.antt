@@ -1,6 +1,7 @@
 pub mod Cells
 pub mod Numbers
 pub mod Bags
+pub mod Held
 pub mod Printed
 pub mod Refusals
 pub mod CellOrder

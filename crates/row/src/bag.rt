@@ -5,32 +5,35 @@ ghost use Rattle.std.specs.List.Sorted.{IsPartitionPoint};
 ghost use Rattle.row.specs.{Cells.row_cmp, Bags.times, Bags.inserted, Bags.removed, Bags.IsAscending, BagChanges.plus_applied, BagChanges.minus_applied, BagChanges.taken_back, BagChanges.with_gains, BagChanges.with_losses, BagChanges.with_records};
 
 use crate::record::{Record, Sign};
-use crate::row::{Row, copies};
+use crate::row::Row;
+use crate::rows::Rows;
 use std::alloc::{AllocError, Global};
 use std::marker::Model;
 
-/// A bag of rows, seen as the list of its rows in order, each as often as it is there.
+/// A bag of rows, seen as the list of its rows in order, each as often as it is there. A bag
+/// that never had two rows takes no memory.
 #[derive(Debug)]
 pub struct Bag {
-    rows: Vec<Row>,
+    alloc: Global,
+    rows: Rows,
 }
 
 // What holds one drops it by this call, and need not know its parts.
 impl Drop for Bag {
     fn drop(self) {
-        let Bag { rows: _ } = self;
+        let Bag { alloc: _, rows: _ } = self;
     }
 }
 
 impl Model for Bag {
     ghost use Rattle.std.specs.Prelude.{List};
-    ghost use Rattle.row.specs.{Cells.Datum, Cells.row_cmp, Bags.IsAscending};
+    ghost use Rattle.row.specs.{Cells.Datum, Cells.row_cmp, Bags.IsAscending, Held.rows_in};
 
     ghost Value = { List (List Datum) };
 
-    ghost view = { λ b. b.rows.items };
+    ghost view = { λ b. rows_in b.rows };
 
-    ghost invariant = { λ b. IsAscending row_cmp b.rows.items };
+    ghost invariant = { λ b. IsAscending row_cmp (rows_in b.rows) };
 }
 
 impl Bag {
@@ -39,7 +42,8 @@ impl Bag {
         ensures { result ≡ [] }
     {
         Bag {
-            rows: Vec::new(alloc),
+            alloc,
+            rows: Rows::None,
         }
     }
 
@@ -48,29 +52,29 @@ impl Bag {
         ensures rows { result.now ≡ self.now }
         ensures in_order { IsAscending row_cmp self.now }
     {
-        &self.rows
+        self.rows.as_slice()
     }
 
     /// The same rows. Errors: memory only. Cost: that of `Row::try_clone` for each row.
     pub fn try_clone(&self, alloc: Global) -> Result<Bag, AllocError>
         ensures { IfOk result (λ b. b ≡ self.now) }
     {
-        let rows = copies(alloc, self.rows())?;
-        Ok(Bag { rows })
+        let rows = self.rows.try_clone(alloc)?;
+        Ok(Bag { alloc, rows })
     }
 
     /// How many rows there are, a repeat counted each time. Constant time.
     pub fn len(&self) -> usize
         ensures { result ≡ length self.now }
     {
-        self.rows.len()
+        self.rows().len()
     }
 
     /// Whether there is no row. Constant time.
     pub fn is_empty(&self) -> bool
         ensures { result ≡ (length self.now == 0) }
     {
-        self.rows.is_empty()
+        self.rows().is_empty()
     }
 
     /// Whether the row is there at least once. Takes no memory. Finds the place by halves.
@@ -89,7 +93,7 @@ impl Bag {
         ensures err { OnErr result (self.new ≡ self.old) }
     {
         let at = place(self.rows.as_slice(), &row);
-        self.rows.insert(at, row)?;
+        self.rows.insert(self.alloc, at, row)?;
         Ok(())
     }
 

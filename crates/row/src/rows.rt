@@ -1,0 +1,82 @@
+//! The places of the rows of a bag.
+ghost use Rattle.std.specs.Prelude.{◌≡◌, ◌<◌, ◌≤◌, [], length, insert, remove, IfOk, OnOk, OnErr};
+ghost use Rattle.row.specs.Held.{rows_in};
+
+use crate::row::{Row, copies};
+use std::alloc::{AllocError, Global};
+use std::{mem, slice};
+
+/// A list of rows in two words. One that never had two rows takes no memory.
+#[derive(Debug, Drop)]
+pub(crate) enum Rows {
+    None,
+    One(Row),
+    Many(Box<Vec<Row>>),
+}
+
+impl Rows {
+    /// The rows, in order. Constant time.
+    pub(crate) fn as_slice(&self) -> &[Row]
+        ensures value { result.now ≡ rows_in self.now }
+        ensures len { length result.now ≡ length (rows_in self.now) }
+    {
+        match self {
+            Rows::None => &[],
+            Rows::One(row) => slice::from_ref(row),
+            Rows::Many(rows) => rows.as_slice(),
+        }
+    }
+
+    /// The same rows. Errors: memory only. Cost: that of `Row::try_clone` for each row.
+    pub(crate) fn try_clone(&self, alloc: Global) -> Result<Rows, AllocError>
+        ensures { IfOk result (λ r. rows_in r ≡ rows_in self.now) }
+    {
+        match self.as_slice() {
+            [] => Ok(Rows::None),
+            [row] => Ok(Rows::One(row.try_clone(alloc)?)),
+            rows => Ok(Rows::Many(Box::new(alloc, copies(alloc, rows)?)?)),
+        }
+    }
+
+    /// Puts the row in a place, and those from there on behind it. Errors: memory only; then the rows
+    /// are as they were. Cost: a move of the rows behind.
+    pub(crate) fn insert(&mut self, alloc: Global, at: usize, row: Row) -> Result<(), AllocError>
+        requires { at ≤ length (rows_in self.old) }
+        ensures items { OnOk result (rows_in self.new ≡ insert (rows_in self.old) at row) }
+        ensures err { OnErr result (rows_in self.new ≡ rows_in self.old) }
+    {
+        match self {
+            Rows::None => {
+                *self = Rows::One(row);
+                Ok(())
+            }
+            Rows::One(_) => {
+                let mut rows = Box::new(alloc, Vec::with_capacity(alloc, 4)?)?;
+                if let Rows::One(first) = mem::replace(self, Rows::None) {
+                    rows.push_reserved(first);
+                }
+                rows.insert(at, row)?;
+                *self = Rows::Many(rows);
+                Ok(())
+            }
+            Rows::Many(rows) => {
+                rows.insert(at, row)?;
+                Ok(())
+            }
+        }
+    }
+
+    /// Takes away the row in a place. Takes no memory. Cost: a move of the rows behind.
+    pub(crate) fn remove(&mut self, at: usize)
+        requires { at < length (rows_in self.old) }
+        ensures items { rows_in self.new ≡ remove (rows_in self.old) at }
+    {
+        match self {
+            Rows::None => {}
+            Rows::One(_) => *self = Rows::None,
+            Rows::Many(rows) => {
+                rows.remove(at);
+            }
+        }
+    }
+}
