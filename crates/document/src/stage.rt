@@ -56,10 +56,10 @@ fn value_at(alloc: Global, value: &Value, part: Part) -> Result<Cell, PlanError>
     ensures { Gives datum_of result (value_at (view value.now)) }
 {
     if let Some(text) = value.as_str() {
-        return Ok(Cell::Text(String::from_str(alloc, text)?));
+        return Ok(Cell::text(alloc, text)?);
     }
     match value.as_integer() {
-        Some(number) => Ok(Cell::Int(number as i128)),
+        Some(number) => Ok(Cell::Int(number)),
         None => Err(PlanError::At(Flaw::TypeMismatch, Spot::new(part, "value", A_VALUE))),
     }
 }

@@ -19,9 +19,9 @@ impl Kind {
     pub fn takes(self, value: &Value) -> bool
         ensures { result ≡ is_cell self (datum_of value.now) }
     {
-        match (self, value) {
-            (Kind::Int, Value::Int(n)) => -9223372036854775808 <= *n && *n <= 9223372036854775807,
-            (Kind::Text, Value::Text(t)) => is_plain(t.as_bytes()),
+        match (self, value.as_number(), value) {
+            (Kind::Int, Some(number), _) => i64::try_from(number).is_ok(),
+            (Kind::Text, _, Value::Text(text)) => is_plain(text.as_str().as_bytes()),
             _ => false,
         }
     }

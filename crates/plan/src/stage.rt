@@ -50,8 +50,8 @@ impl Condition {
         ensures { result ≡ value_is_small self.now.value }
     {
         match &self.value {
-            Value::Int(_) => true,
-            Value::Text(text) => is_plain(text.as_bytes()),
+            Value::Int(_) | Value::Long(_) => true,
+            Value::Text(text) => is_plain(text.as_str().as_bytes()),
         }
     }
 

@@ -5,6 +5,7 @@ pub mod Held
 pub mod Printed
 pub mod Refusals
 pub mod CellOrder
+pub mod ValueOrder
 pub mod Changes
 pub mod BagChanges
 pub mod Groups

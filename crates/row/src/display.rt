@@ -17,6 +17,7 @@ impl Display for Value {
     fn fmt<W: fmt::Write>(&self, f: &mut fmt::Formatter<W>) -> fmt::Result {
         match self {
             Value::Int(number) => write!(f, "{number}"),
+            Value::Long(number) => write!(f, "{number}"),
             Value::Text(text) => write_text(f, text.as_str()),
         }
     }

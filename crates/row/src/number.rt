@@ -10,10 +10,7 @@ use crate::value::Value;
 fn number_of(value: &Value) -> i128
     ensures { result ≡ number_of (datum_of value.now) }
 {
-    match value {
-        Value::Int(number) => *number,
-        Value::Text(_) => 0,
-    }
+    value.as_number().unwrap_or(0)
 }
 
 /// The number that the row has in the column; 0 for a text, and past the row's end. Takes no

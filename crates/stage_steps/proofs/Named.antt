@@ -33,6 +33,6 @@ module _ (alloc : Global) where
   cell_named kind.Text (text bytes) h =
       let u = IsUtf8-from_ascii bytes (printed_ascii bytes (and_right (nat_le (length bytes) 255) (list_all is_printed bytes) h)) in
       record {
-        value = code.Text (record { bytes = record { ptr = null_ptr; len = length bytes; cap = length bytes; alloc = alloc; items = bytes; ok = (refl, omega arith); small = let s = plain_short bytes h in omega (arith, s) }; ok = ∣ u ∣₁ });
+        value = code.Text (record { text = record { ptr = null_ptr; value = record { bytes = record { ptr = null_ptr; len = length bytes; cap = length bytes; alloc = alloc; items = bytes; ok = (refl, omega arith); small = let s = plain_short bytes h in omega (arith, s) }; ok = ∣ u ∣₁ } } });
         is = refl;
       }

@@ -146,8 +146,8 @@ impl<J: Naming, R: Wait> Caller<J, R> {
 // A row of two numbers and a text.
 fn row(alloc: Global, id: i128, other: i128) -> Result<Row, AllocError> {
     let mut cells = Vec::new(alloc);
-    cells.push(Value::Int(id))?;
-    cells.push(Value::Int(other))?;
-    cells.push(Value::Text(String::from_str(alloc, "a")?))?;
+    cells.push(Value::number(alloc, id)?)?;
+    cells.push(Value::number(alloc, other)?)?;
+    cells.push(Value::text(alloc, "a")?)?;
     Row::new(alloc, cells)
 }

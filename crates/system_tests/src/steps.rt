@@ -12,8 +12,8 @@ use std::test::Fail;
 pub enum Call {
     Fence,
     Insert(u64),
-    Read(i128),
-    TryRead(i128),
+    Read(i64),
+    TryRead(i64),
 }
 
 /// What a call that was not refused told: of a read, how many entries its cut has and how many rows
@@ -55,7 +55,7 @@ impl<J: Naming, R: Wait> Caller<J, R> {
         }
     }
 
-    fn tell_rows(&mut self, author: i128, waits: bool) -> Result<Told, Refused> {
+    fn tell_rows(&mut self, author: i64, waits: bool) -> Result<Told, Refused> {
         match self.look("by_author", &Value::Int(author), waits)? {
             Found::Hit(answer) => Ok(Told::Rows(answer.cut.len(0, 0), answer.rows.len())),
             Found::Miss => Ok(Told::Miss),

@@ -3,11 +3,13 @@ use Rattle.std.proofs.Common.{◌≡◌, ℕ, zero, suc, ◌+◌, Bool, true, fa
 use Rattle.row.specs.Cells.{Cells, datum_of, same}
 use Rattle.row.specs.Groups.{equal}
 use Rattle.row.specs.declared.value.Value.{Value}
-use Rattle.partial.specs.States.{State, Hole, Waiting, Filled, state_of, order_of, begun, is_hole, OthersStay}
+use Rattle.partial.specs.States.{State, Hole, Waiting, Filled, state_of, entry_of, order_of, begun, is_hole, OthersStay}
 use Rattle.packet.specs.Keys.{stand_of, stands_of, begin_at}
 use Rattle.packet.specs.Marks.{Gathering, has_come, complete, partly}
 use Rattle.packet.proofs.KeptKeys.{begin_is, keys_stay}
+use Rattle.view_domain.specs.Shown.{LeadsTo, rows_at}
 use Rattle.view_domain.specs.Taken.{asks_by}
+use Rattle.view_domain.proofs.StateSteps.{leads_same}
 use Rattle.packet.proofs.KeySteps.{Store, one_key}
 
 -- ---- requests
@@ -26,6 +28,15 @@ replicate_more n x = ap (λ k. replicate k x) (add-one n) ∙ replicate_last n x
 module _ (old new : Store) (copy key : Value) (is_key : datum_of copy ≡ datum_of key) (n : ℕ) (own : state_of equal new copy ≡ begun n (state_of equal old copy)) (others : OthersStay equal copy old new) (order : order_of new ≡ order_of old) where
   pub begun_is : stands_of new ≡ begin_at n (datum_of key) (stands_of old)
   begun_is = begin_is old new copy others n own order ∙ ap (λ d. begin_at n d (stands_of old)) is_key
+
+  begun_entry : (st : State (List Cells)) → entry_of (begun n st) ≡ entry_of st
+  begun_entry Hole = refl
+  begun_entry (Waiting pieces) = refl
+  begun_entry (Filled e) = refl
+
+  -- nothing is told of it
+  pub begun_shown : LeadsTo (rows_at old) [] new
+  begun_shown = leads_same old new copy others (rows_at old) [] (ap entry_of own ∙ begun_entry (state_of equal old copy)) (record { each = λ k. refl; fits = λ k. tt })
 
   idle : (st : State (List Cells)) → is_hole st ≡ false → begun n st ≡ st
   idle Hole h = absurd (true≢false h)

@@ -68,6 +68,7 @@ fn requests_of(
 
 /// Makes a hole wait, and answers a request of it for each source; `None` where the key is no hole,
 /// and then nothing changes.
+#[tactic(auto, using(row::proofs::Keys::value_equivalence))]
 pub(crate) fn begin_key(
     alloc: Global,
     kept: &mut Partial<Value, Bag>,

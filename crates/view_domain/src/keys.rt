@@ -150,6 +150,7 @@ pub fn change_keys(
 }
 
 /// Says of a key that has just been filled that it has its rows, of which it tells a copy.
+#[tactic(auto, using(crate::proofs::StateSteps::leads_same))]
 fn tell_filled(
     alloc: Global,
     kept: &Partial<Value, Bag>,
@@ -198,6 +199,7 @@ pub fn fill_key(
 }
 
 /// Makes the key a hole that was filled first, and says so; where none is filled nothing changes.
+#[tactic(auto, using(row::proofs::Keys::value_equivalence))]
 fn open_oldest(kept: &mut Partial<Value, Bag>, told: &mut Vec<KeyChange>) -> Result<(), AllocError>
     ensures sources { kept.new.sources ≡ kept.old.sources }
     ensures stands { stands_of kept.new

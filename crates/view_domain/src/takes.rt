@@ -58,6 +58,7 @@ fn take_changes(
 }
 
 /// Takes in the piece of a source, if there is one.
+#[tactic(auto, using(row::proofs::Keys::equal_is))]
 fn take_piece(
     alloc: Global,
     kept: &mut Partial<Value, Bag>,

@@ -16,7 +16,7 @@ type TableOf = (&'static str, usize, &'static [(&'static str, Kind)]);
 pub struct SideOf {
     table: usize,
     key: usize,
-    conditions: &'static [(usize, Op, i128)],
+    conditions: &'static [(usize, Op, i64)],
 }
 
 /// A plan with a stage of two shards, but for what is told. Of the view it has the name, the key

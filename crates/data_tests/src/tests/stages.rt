@@ -276,7 +276,7 @@ fn next(seed: &mut u64, limit: u64) -> u64
 fn any_gain(alloc: Global, seed: &mut u64) -> Result<Record, AllocError> {
     let mut values = Vec::new(alloc);
     for _ in 0..3 {
-        values.push(Value::Int(i128::from(next(seed, 4)) - 1))?;
+        values.push(Value::number(alloc, i128::from(next(seed, 4)) - 1)?)?;
     }
     let row = Row::new(alloc, values)?;
     let sign = Sign::Plus;

@@ -8,11 +8,11 @@ use std::alloc::{AllocError, Global};
 /// A number where the word is one, else a text; `""` is the empty text.
 pub fn value(alloc: Global, word: &str) -> Result<Value, AllocError> {
     if word == "\"\"" {
-        return Ok(Value::Text(String::new(alloc)));
+        return Value::text(alloc, "");
     }
     match word.parse::<i64>() {
-        Ok(number) => Ok(Value::Int(i128::from(number))),
-        Err(_) => Ok(Value::Text(String::from_str(alloc, word)?)),
+        Ok(number) => Ok(Value::Int(number)),
+        Err(_) => Value::text(alloc, word),
     }
 }
 

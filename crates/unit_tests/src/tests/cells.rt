@@ -12,8 +12,8 @@ pub enum Cell {
 
 pub fn value(alloc: Global, cell: Cell) -> Result<Value, AllocError> {
     match cell {
-        Cell::Int(number) => Ok(Value::Int(number)),
-        Cell::Text(text) => Ok(Value::Text(String::from_str(alloc, text)?)),
+        Cell::Int(number) => Value::number(alloc, number),
+        Cell::Text(text) => Value::text(alloc, text),
     }
 }
 

@@ -34,7 +34,7 @@ fn note(alloc: Global) -> Result<Row, AllocError>
     let mut cells = Vec::new(alloc);
     cells.push(Value::Int(1))?;
     cells.push(Value::Int(7))?;
-    cells.push(Value::Text(String::from_str(alloc, "a")?))?;
+    cells.push(Value::text(alloc, "a")?)?;
     Row::new(alloc, cells)
 }
 

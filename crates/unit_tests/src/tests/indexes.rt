@@ -100,7 +100,7 @@ impl Shards {
             shards: 3,
             shard: (group % 3) as usize,
         };
-        let value = Value::Int(i128::from(group));
+        let value = Value::number(alloc, i128::from(group))?;
         let found = self.indexed.lookup(alloc, 1, &value, part)?;
         let scanned = self.plain.lookup(alloc, 1, &value, part)?;
         Ok(found == scanned)
@@ -111,7 +111,7 @@ impl Shards {
 fn next_entry(alloc: Global, random: &mut Random) -> Result<Entry, AllocError>
     ensures { IfOk result (λ e. HasKey 0 (change_of e)) }
 {
-    let key = Value::Int(i128::from(random.below(KEYS)));
+    let key = Value::number(alloc, i128::from(random.below(KEYS)))?;
     let kind = random.below(3);
     if kind == 0 {
         return Ok(Entry::Delete(key));
@@ -130,7 +130,7 @@ fn row(alloc: Global, key: Value, group: u64) -> Result<Row, AllocError>
     let mut cells = Vec::new(alloc);
     cells.push(key)?;
     if group < GROUPS - 1 {
-        cells.push(Value::Int(i128::from(group)))?;
+        cells.push(Value::number(alloc, i128::from(group))?)?;
     }
     Row::new(alloc, cells)
 }

@@ -32,8 +32,11 @@ fn a_value_has_its_shard(rt: HostRuntime) -> Result<(), Fail> {
     Ok(())
 }
 
+/// The least number that takes more than 64 bits.
+const LONG: Cell = Int(9223372036854775808);
+
 /// A row, another one, and how the first stands to the second.
-const ORDERS: [(&[Cell], &[Cell], Ordering); 8] = [
+const ORDERS: [(&[Cell], &[Cell], Ordering); 12] = [
     (&[Int(9)], &[Text("1")], Ordering::Less),
     (&[Int(-2)], &[Int(1)], Ordering::Less),
     (&[Text("b")], &[Text("ab")], Ordering::Greater),
@@ -42,6 +45,10 @@ const ORDERS: [(&[Cell], &[Cell], Ordering); 8] = [
     (&[Int(1), Int(9)], &[Int(2), Int(0)], Ordering::Less),
     (&[Int(1)], &[Int(1), Int(9)], Ordering::Less),
     (&[], &[Int(-1)], Ordering::Less),
+    (&[LONG], &[Int(1)], Ordering::Greater),
+    (&[Int(-9223372036854775809)], &[Int(-1)], Ordering::Less),
+    (&[LONG], &[Text("")], Ordering::Less),
+    (&[LONG], &[LONG], Ordering::Equal),
 ];
 
 fn compared(alloc: Global, cells: &[Cell], others: &[Cell]) -> Result<Ordering, AllocError> {
@@ -146,7 +153,7 @@ fn a_bag_keeps_repeats(rt: HostRuntime) -> Result<(), Fail> {
 }
 
 /// A record of a row of these two numbers.
-fn signed(alloc: Global, id: i128, author: i128, sign: Sign) -> Result<Record, AllocError>
+fn signed(alloc: Global, id: i64, author: i64, sign: Sign) -> Result<Record, AllocError>
     ensures { IfOk result (λ r. r ≡ record { row = int id ∷ int author ∷ []; sign = sign }) }
 {
     let row = Row::new(alloc, vec![in alloc; Value::Int(id), Value::Int(author)]?)?;
@@ -179,5 +186,7 @@ fn rows_are_found_by_a_column(rt: HostRuntime) -> Result<(), Fail> {
     assert!(rt; are_rows(rt.alloc(), found.rows_of(&Value::Int(7)), "1 7;2 7;")?);
     assert!(rt; are_rows(rt.alloc(), found.rows_of(&Value::Int(8)), "3 8;")?);
     assert!(rt; found.rows_of(&Value::Int(9)).is_empty());
+    let long = Value::Long(Box::new(rt.alloc(), 7)?);
+    assert!(rt; are_rows(rt.alloc(), found.rows_of(&long), "1 7;2 7;")?);
     Ok(())
 }

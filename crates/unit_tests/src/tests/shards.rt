@@ -131,7 +131,7 @@ impl Notes {
 fn find(shard: &BaseShard, alloc: Global, author: u8, part: Part) -> Result<Vec<Row>, AllocError>
     requires { part.shards ≢ 0 }
 {
-    shard.lookup(alloc, 1, &Value::Int(i128::from(author)), part)
+    shard.lookup(alloc, 1, &Value::Int(i64::from(author)), part)
 }
 
 // Whether the rows are the one note, or none where there is none.
@@ -154,13 +154,13 @@ fn write(shard: &mut BaseShard, alloc: Global, entry: Entry) -> Result<Vec<Recor
     Ok(records)
 }
 
-fn note(alloc: Global, id: i128, author: i128) -> Result<Row, AllocError>
+fn note(alloc: Global, id: i64, author: i64) -> Result<Row, AllocError>
     ensures { IfOk result (λ r. r ≡ int id ∷ int author ∷ text (codes "a") ∷ []) }
 {
     let mut cells = Vec::new(alloc);
     cells.push(Value::Int(id))?;
     cells.push(Value::Int(author))?;
-    cells.push(Value::Text(String::from_str(alloc, "a")?))?;
+    cells.push(Value::text(alloc, "a")?)?;
     Row::new(alloc, cells)
 }
 
@@ -170,12 +170,12 @@ fn entry_of(alloc: Global, change: Change) -> Result<Entry, AllocError>
 {
     match change {
         Change::Insert(id, author) => {
-            Ok(Entry::Insert(note(alloc, i128::from(id), i128::from(author))?))
+            Ok(Entry::Insert(note(alloc, i64::from(id), i64::from(author))?))
         }
         Change::Update(id, author) => {
-            Ok(Entry::Update(note(alloc, i128::from(id), i128::from(author))?))
+            Ok(Entry::Update(note(alloc, i64::from(id), i64::from(author))?))
         }
-        Change::Delete(id) => Ok(Entry::Delete(Value::Int(i128::from(id)))),
+        Change::Delete(id) => Ok(Entry::Delete(Value::Int(i64::from(id)))),
     }
 }
 
@@ -198,5 +198,5 @@ fn is_at(records: &[Record], place: usize, (sign, id, author): Signed) -> bool {
 
 /// Whether this is the author's note of the id.
 fn is_note(row: &Row, id: u8, author: u8) -> bool {
-    row.has(0, &Value::Int(i128::from(id))) && row.has(1, &Value::Int(i128::from(author)))
+    row.has(0, &Value::Int(i64::from(id))) && row.has(1, &Value::Int(i64::from(author)))
 }

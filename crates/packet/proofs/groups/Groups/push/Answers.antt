@@ -2,23 +2,14 @@ use Rattle.std.proofs.Common.{sym, ap}
 use Rattle.std.proofs.lemmas.Result.{on_ok_weaker}
 use Rattle.packet.proofs.GroupSteps.{known_records, known_names, put_here, new_records, new_names}
 use Rattle.packet.proofs.groups.Groups.push.Goals as goal
-use Rattle.packet.proofs.groups.Groups.push.Goals.{in-Text-2, in-Int-2}
 
 pub returns-in-Some-clause-records : goal.returns-in-Some-clause-records
-returns-in-Some-clause-records c = elim c.match-key.branch [
-  | in-Text-2 w ↦ rw (w.self-is, ← c.self.view_is)
-      (on_ok_weaker c.push.result (λ p. known_records c.self.inside.groups.entries _ c.args.key c.args.change c.in-Some.group.now c.push.new.self (sym c.in-Some.ensures.value) p (c.get_mut.follows.holds c.push.new.self).0) c.push.ensures)
-  | in-Int-2 w ↦ rw (w.self-is, ← c.self.view_is)
-      (on_ok_weaker c.push.result (λ p. known_records c.self.inside.groups.entries _ c.args.key c.args.change c.in-Some.group.now c.push.new.self (sym c.in-Some.ensures.value) p (c.get_mut.follows.holds c.push.new.self).0) c.push.ensures)
-]
+returns-in-Some-clause-records c = rw (← c.self.view_is)
+    (on_ok_weaker c.push.result (λ p. known_records c.self.inside.groups.entries _ c.args.key c.args.change c.in-Some.group.now c.push.new.self (sym c.in-Some.ensures.value) p (c.get_mut.follows.holds c.push.new.self).0) c.push.ensures)
 
 pub returns-in-Some-clause-names : goal.returns-in-Some-clause-names
-returns-in-Some-clause-names c = elim c.match-key.branch [
-  | in-Text-2 w ↦ rw (w.self-is, ← c.self.view_is)
-      (on_ok_weaker c.push.result (λ p. known_names c.self.inside.groups.entries _ c.args.key c.args.change c.in-Some.group.now c.push.new.self (sym c.in-Some.ensures.value) (c.get_mut.follows.holds c.push.new.self).0) c.push.ensures)
-  | in-Int-2 w ↦ rw (w.self-is, ← c.self.view_is)
-      (on_ok_weaker c.push.result (λ p. known_names c.self.inside.groups.entries _ c.args.key c.args.change c.in-Some.group.now c.push.new.self (sym c.in-Some.ensures.value) (c.get_mut.follows.holds c.push.new.self).0) c.push.ensures)
-]
+returns-in-Some-clause-names c = rw (← c.self.view_is)
+    (on_ok_weaker c.push.result (λ p. known_names c.self.inside.groups.entries _ c.args.key c.args.change c.in-Some.group.now c.push.new.self (sym c.in-Some.ensures.value) (c.get_mut.follows.holds c.push.new.self).0) c.push.ensures)
 
 pub returns-in_ok-insert-in-None-clause-records : goal.returns-in_ok-insert-in-None-clause-records
 returns-in_ok-insert-in-None-clause-records c = rw (← c.self.view_is)
