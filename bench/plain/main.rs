@@ -23,18 +23,18 @@ const LOADED: usize = 15;
 
 #[derive(Clone, PartialEq, Eq, Hash)]
 pub enum Value {
-    Int(i128),
-    Text(String),
+    Int(i64),
+    Text(Arc<String>),
 }
 
 pub type Row = Vec<Value>;
 
 pub fn int(number: usize) -> Value {
-    Value::Int(number as i128)
+    Value::Int(number as i64)
 }
 
 pub fn story_row(id: usize, author: usize) -> Row {
-    vec![int(id), int(author), Value::Text("a title of some length".to_string())]
+    vec![int(id), int(author), Value::Text(Arc::new("a title of some length".to_string()))]
 }
 
 pub fn vote_row(id: usize, story: usize) -> Row {
