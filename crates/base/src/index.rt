@@ -146,12 +146,12 @@ pub(crate) fn lose_all(indexes: &mut Vec<Index>, row: &Row)
     }
 }
 
-/// Copies of those of the rows that belong to the part. Errors: memory only.
+/// Copies of those of the rows that belong to the part, in room for all. Errors: memory only.
 pub(crate) fn copies_in(alloc: Global, rows: &[Row], part: Part) -> Result<Vec<Row>, AllocError>
     requires { part.shards ≢ 0 }
     ensures { IfOk result (λ v. v.items ≡ filter (is_in part) rows.now) }
 {
-    let mut copies = Vec::new(alloc);
+    let mut copies = Vec::with_capacity(alloc, rows.len())?;
     for row in rows {
         if part.has(row) {
             copies.push(row.try_clone(alloc)?)?;

@@ -1,12 +1,11 @@
 //! Bags of rows are gathered: a change is a list of signed rows, and the sum that of bags.
-ghost use Rattle.std.specs.Prelude.{◌≡◌, ◌+◌, IfOk, OnOk};
-ghost use Rattle.row.specs.{Cells.Cells, Cells.row_cmp, Bags.times, Bags.sorted, Bags.IsAscending, Changes.IsCovered, BagChanges.with_records};
+ghost use Rattle.std.specs.Prelude.{◌≡◌, IfOk};
+ghost use Rattle.row.specs.{Changes.IsCovered, BagChanges.with_records};
 ghost use Rattle.partial.specs.{Sums.sum_of_bags, BagLaws.total_changes, BagLaws.total_fits};
 
 use crate::gather::Gather;
 use row::bag::Bag;
 use row::record::Record;
-use row::row::Row;
 use std::alloc::{AllocError, Global};
 
 impl Gather for Bag {
@@ -29,7 +28,8 @@ impl Gather for Bag {
         Bag::apply(self, alloc, change)
     }
 
-    /// The bag of all rows of the pieces. Cost: for each row, that of a bag's `add`.
+    /// The bag of all rows of the pieces. Cost: for each row but those of the first piece, that of a
+    /// bag's `add`; none is copied.
     fn gather(alloc: Global, pieces: Vec<Bag>) -> Result<Bag, AllocError>
         ensures { IfOk result (λ e. e ≡ sum_of_bags pieces.items) }
     {
@@ -37,39 +37,15 @@ impl Gather for Bag {
     }
 }
 
-/// The bag of these rows. Errors: memory only. Cost: for each row that of `Bag::add`; none is
-/// copied.
-pub fn bag_of(alloc: Global, rows: Vec<Row>) -> Result<Bag, AllocError>
-    ensures { IfOk result (λ b. b ≡ sorted row_cmp rows.items) }
-{
-    let mut all = Bag::new(alloc);
-    for row in rows {
-        all.add(row)?;
-    }
-    Ok(all)
-}
-
 /// The sum of the bags.
 #[tactic(auto, using(crate::proofs::BagSums::sum_is))]
 fn sum(alloc: Global, pieces: Vec<Bag>) -> Result<Bag, AllocError>
-    ensures { IfOk result (λ b. b ≡ sum_of_bags pieces.items) }
+    ensures { IfOk result (λ e. e ≡ sum_of_bags pieces.items) }
 {
     let mut all = Bag::new(alloc);
     for piece in pieces {
-        add_all(&mut all, alloc, &piece)?;
-    }
-    Ok(all)
-}
-
-/// Adds each row of the piece.
-fn add_all(all: &mut Bag, alloc: Global, piece: &Bag) -> Result<(), AllocError>
-    ensures counts { OnOk result ((z : Cells) → times row_cmp z all.new
-        ≡ times row_cmp z all.old + times row_cmp z piece.now) }
-    ensures in_order { OnOk result (IsAscending row_cmp all.new) }
-{
-    for row in piece.rows() {
-        all.add(row.try_clone(alloc)?)?;
+        all.append(piece)?;
     }
     let _ = all.rows();
-    Ok(())
+    Ok(all)
 }

@@ -1,8 +1,8 @@
 //! A bag of rows: a row counts as often as it was added and not taken away.
-ghost use Rattle.std.specs.Prelude.{◌≡◌, ◌==◌, ◌<◌, ◌≤◌, List, [], length, true, false, ◌↔◌, IsTrue, IfOk, OnOk, OnErr};
+ghost use Rattle.std.specs.Prelude.{◌≡◌, ◌==◌, ◌<◌, ◌≤◌, ◌+◌, List, [], length, true, false, ◌↔◌, IsTrue, IfOk, OnOk, OnErr};
 ghost use Rattle.std.specs.Ordering.{is_gt};
 ghost use Rattle.std.specs.List.Sorted.{IsPartitionPoint};
-ghost use Rattle.row.specs.{Cells.row_cmp, Bags.times, Bags.inserted, Bags.removed, Bags.IsAscending, BagChanges.plus_applied, BagChanges.minus_applied, BagChanges.taken_back, BagChanges.with_gains, BagChanges.with_losses, BagChanges.with_records};
+ghost use Rattle.row.specs.{Cells.row_cmp, Bags.times, Bags.inserted, Bags.removed, Bags.sorted, Bags.IsAscending, Cells.Cells, BagChanges.plus_applied, BagChanges.minus_applied, BagChanges.taken_back, BagChanges.with_gains, BagChanges.with_losses, BagChanges.with_records};
 
 use crate::record::{Record, Sign};
 use crate::row::Row;
@@ -45,6 +45,16 @@ impl Bag {
             alloc,
             rows: Rows::None,
         }
+    }
+
+    /// The bag of these rows. Errors: memory only. Cost: a look at each row where they are in order,
+    /// else a sort of them; none is copied.
+    pub fn of(alloc: Global, mut rows: Vec<Row>) -> Result<Bag, AllocError>
+        ensures { IfOk result (λ b. b ≡ sorted row_cmp rows.items) }
+    {
+        rows.sort()?;
+        let rows = Rows::of(alloc, rows)?;
+        Ok(Bag { alloc, rows })
     }
 
     /// The rows in order, each as often as it is in the bag. Constant time.
@@ -94,6 +104,36 @@ impl Bag {
     {
         let at = place(self.rows.as_slice(), &row);
         self.rows.insert(self.alloc, at, row)?;
+        Ok(())
+    }
+
+    /// Adds each row of the other, beside those that are there. Errors: memory only; then some are
+    /// added. Cost: constant where the bag is empty, else for each row that of `add`; none is copied.
+    pub fn append(&mut self, other: Bag) -> Result<(), AllocError>
+        ensures counts { OnOk result ((z : Cells) → times row_cmp z self.new
+            ≡ times row_cmp z self.old + times row_cmp z other) }
+    {
+        if self.is_empty() {
+            *self = other;
+            return Ok(());
+        }
+        let Bag { alloc: _, rows } = other;
+        match rows {
+            Rows::None => {}
+            Rows::One(row) => self.add(row)?,
+            Rows::Many(rows) => self.add_each(Box::into_inner(rows))?,
+        }
+        Ok(())
+    }
+
+    // Adds each row.
+    fn add_each(&mut self, rows: Vec<Row>) -> Result<(), AllocError>
+        ensures { OnOk result ((z : Cells) → times row_cmp z self.new
+            ≡ times row_cmp z self.old + times row_cmp z rows.items) }
+    {
+        for row in rows {
+            self.add(row)?;
+        }
         Ok(())
     }
 

@@ -15,6 +15,19 @@ pub(crate) enum Rows {
 }
 
 impl Rows {
+    /// These rows. Errors: memory only. Constant time.
+    pub(crate) fn of(alloc: Global, mut rows: Vec<Row>) -> Result<Rows, AllocError>
+        ensures { IfOk result (λ r. rows_in r ≡ rows.items) }
+    {
+        if rows.len() > 1 {
+            return Ok(Rows::Many(Box::new(alloc, rows)?));
+        }
+        match rows.pop() {
+            Some(row) => Ok(Rows::One(row)),
+            None => Ok(Rows::None),
+        }
+    }
+
     /// The rows, in order. Constant time.
     pub(crate) fn as_slice(&self) -> &[Row]
         ensures value { result.now ≡ rows_in self.now }

@@ -27,13 +27,17 @@ pub(crate) fn kept(plan: &Plan, side: Side, mut records: Vec<Record>) -> Vec<Rec
 }
 
 /// Of these rows those of the right side's table for which its conditions hold, in their order;
-/// none where there is no right side. Takes no memory. Cost: a look at each cell of each row.
+/// none where there is no right side; the list keeps no room for others. Takes no memory. Cost: a look
+/// at each cell of each row, and where some are dropped a move of the others.
 pub(crate) fn kept_rows(plan: &Plan, mut rows: Vec<Row>) -> Vec<Row>
     ensures { result.items ≡ kept_rows plan.now rows.items }
 {
     plan.keeps_profile();
     match plan.right() {
-        Some(side) => rows.retain(|row| is_kept(plan, side, row)),
+        Some(side) => {
+            rows.retain(|row| is_kept(plan, side, row));
+            rows.shrink_to_fit();
+        }
         None => rows.clear(),
     }
     rows

@@ -11,7 +11,6 @@ use crate::parts::{change_parted, part_by_key};
 use crate::shown::KeyChange;
 use packet::keyed::Keyed;
 use packet::piece::Piece;
-use partial::bags::bag_of;
 use partial::partial::Partial;
 use row::bag::Bag;
 use row::value::Value;
@@ -79,7 +78,7 @@ fn take_piece(
         return Ok(());
     };
     let (key, rows) = piece.into_parts();
-    let rows = bag_of(alloc, rows)?;
+    let rows = Bag::of(alloc, rows)?;
     fill_key(alloc, source, key, rows, kept, told)
 }
 

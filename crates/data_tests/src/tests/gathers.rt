@@ -34,11 +34,7 @@ fn begin(alloc: Global, bags: &mut Bags, key: &str) -> Result<bool, AllocError> 
 }
 
 fn bag(alloc: Global, text: &str) -> Result<Bag, AllocError> {
-    let mut bag = Bag::new(alloc);
-    for row in rows(alloc, text)? {
-        bag.add(row)?;
-    }
-    Ok(bag)
+    Bag::of(alloc, rows(alloc, text)?)
 }
 
 fn give(

@@ -4,6 +4,5 @@ use Rattle.partial.proofs.bags.sum.Goals as goal
 
 pub loop-piece-preserved : goal.loop-piece-preserved
 loop-piece-preserved c = record {
-  counts = λ z. omega (arith, c.in_ok-add_all.ensures.counts z, c.loop-piece.invariant.counts z, times-joined_middle z c.loop-piece.yielded [] c.in-Some.piece);
-  in_order = c.in_ok-add_all.ensures.in_order;
+  counts = λ z. omega (arith, c.in_ok-append.ensures.counts z, c.loop-piece.invariant.counts z, times-joined_middle z c.loop-piece.yielded [] c.in-Some.piece);
 }
