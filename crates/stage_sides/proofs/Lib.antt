@@ -9,3 +9,4 @@ pub mod Sets
 pub mod RightSteps
 pub mod RightChange
 pub mod Unmoved
+pub mod Behind

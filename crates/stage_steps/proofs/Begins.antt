@@ -1,6 +1,6 @@
 -- Stage keys begin to wait, one after the other.
-use Rattle.std.proofs.Common.{◌≡◌, ℕ, Bool, true, false, cond, List, [], ◌∷◌, ◌++◌, map, take, slice_index_or, ◌+◌, ◌<◌, length, Option, Some, None, refl, ap, sym, ◌∙◌, arith, append_assoc}
-use Rattle.std.specs.List.{range_with_len}
+use Rattle.std.proofs.Common.{◌≡◌, ℕ, Bool, true, false, cond, not, ◌&&◌, List, [], ◌∷◌, ◌++◌, map, take, slice_index_or, ◌+◌, ◌<◌, length, Option, Some, None, refl, ap, sym, ◌∙◌, arith, append_assoc, true≢false}
+use Rattle.std.specs.List.{list_all, range_with_len}
 use Rattle.std.specs.Option.{option_map}
 use Rattle.std.proofs.lemmas.List.{append-nil, map-append, take_more}
 use Rattle.std.proofs.lemmas.List.FromFn.{length-range_with_len}
@@ -19,6 +19,7 @@ use Rattle.protocol.specs.Stages.{Done, Stage}
 use Rattle.protocol.specs.StageSteps.{append_each, asks, asks_for, begins, begins_of, quiet, right_count, starts, starts_of}
 use Rattle.right_rows.specs.Rights.{keys_in}
 use Rattle.stage_sides.specs.Held.{Held}
+use Rattle.stage_sides.proofs.Unmoved.{begins_none as shut_stays}
 use Rattle.stage_sides.specs.Sides.{is_open}
 use Rattle.stage_steps.specs.Outboxes.{AreEdges, OutboxView}
 use Rattle.stage_steps.specs.Shards.{HoldsRight, IsPut, IsShard, Shard, stage_of}
@@ -109,6 +110,36 @@ pub no_keys_asked : (s : Stage) → asks s [] ≡ quiet s
 no_keys_asked s =
     let n = right_count s.plan in
     λ i. record { stage = record s { right = begins_none n s.right i }; sent = none_of (readers s.plan); requests = (ap (asks_for s.plan) (starts_none n s.right) ∙ asks_none s.plan) i }
+
+-- ---- none of the keys is a hole
+pub both_hold : (a b : Bool) → (a && b) ≡ true → (a ≡ true) × (b ≡ true)
+both_hold true b e = (refl, e)
+both_hold false b e = absurd (true≢false (sym e))
+
+shut_is : (b : Bool) → not b ≡ true → b ≡ false
+shut_is true e = sym e
+shut_is false e = refl
+
+begins_shut : (n : ℕ) (xs : List Datum) (o : Option Keys) → list_all (λ x. not (is_open x o)) xs ≡ true → begins_of n xs o ≡ o
+begins_shut n xs None all = refl
+begins_shut n [] (Some keys) all = refl
+begins_shut n (x ∷ xs) (Some keys) all =
+    let each = both_hold (not (is_hole (keys.at x))) (list_all (λ x. not (is_hole (keys.at x))) xs) all in
+    let stays = shut_stays n x (Some keys) (shut_is (is_hole (keys.at x)) each.0) in
+    ap (begins_of n xs) (sym stays) ∙ begins_shut n xs (Some keys) each.1
+
+starts_shut : (n : ℕ) (xs : List Datum) (o : Option Keys) → list_all (λ x. not (is_open x o)) xs ≡ true → starts_of n xs o ≡ []
+starts_shut n xs None all = refl
+starts_shut n [] (Some keys) all = refl
+starts_shut n (x ∷ xs) (Some keys) all =
+    let each = both_hold (not (is_hole (keys.at x))) (list_all (λ x. not (is_hole (keys.at x))) xs) all in
+    let shut = shut_is (is_hole (keys.at x)) each.0 in
+    ap (λ b. cond b (x ∷ []) [] ++ starts n xs (begin_at n x keys)) shut ∙ (ap (starts_of n xs) (sym (shut_stays n x (Some keys) shut)) ∙ starts_shut n xs (Some keys) each.1)
+
+pub none_asked : (s : Stage) (xs : List Datum) → list_all (λ x. not (is_open x s.right)) xs ≡ true → asks s xs ≡ quiet s
+none_asked s xs all =
+    let n = right_count s.plan in
+    λ i. record { stage = record s { right = begins_shut n xs s.right all i }; sent = none_of (readers s.plan); requests = (ap (asks_for s.plan) (starts_shut n xs s.right all) ∙ asks_none s.plan) i }
 
 -- ---- one key
 begun_one : (n : ℕ) (k : Datum) (o : Option Keys) → begins_of n (k ∷ []) o ≡ option_map (begin_at n k) o

@@ -30,3 +30,4 @@ pub mod Changed
 pub mod Takes
 pub mod Moves
 pub mod Joined
+pub mod Waiting

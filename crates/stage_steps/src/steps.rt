@@ -201,9 +201,9 @@ impl<'p, F: Fronts> StageShard<'p, F> {
     /// to wait where they are holes, and each right source is asked for those; where all right rows
     /// of all of them are here it is answered with one packet to the view shard of its key, else it
     /// waits on. Errors: memory only; then nothing is said of the shard, and some are told or
-    /// asked. Cost: for each request the left rows of its key; for a key that begins to wait a copy
-    /// of it for each right source; for an answer that of `StageRows::piece` and a copy of the
-    /// line.
+    /// asked. Cost: for each request at most three look-ups by hash for each left row of its key, and
+    /// where one of the stage keys is a hole a copy of each; for a key that begins to wait a copy of
+    /// it for each right source; for an answer that of `StageRows::piece` and a copy of the line.
     fn look(&mut self, alloc: Global, out: &mut StageOutbox<F>) -> Result<(), AllocError>
         requires whole { IsShard self.old }
         requires edges { AreEdges self.old.plan out.old }
@@ -220,7 +220,8 @@ impl<'p, F: Fronts> StageShard<'p, F> {
         Ok(())
     }
 
-    /// Looks at one request.
+    /// Looks at one request. Where all is here it is answered, and where no key is a hole it waits on,
+    /// with no list of the keys.
     fn look_at(
         &mut self,
         alloc: Global,
@@ -237,7 +238,15 @@ impl<'p, F: Fronts> StageShard<'p, F> {
             → OnOk result (IsPut (next d (λ s. look s ask)) out.new self.new) }
     {
         self.rows.keeps_order();
-        let needed = self.rows.behind(alloc, view_of(ask.tag()), ask.key())?;
+        let view = view_of(ask.tag());
+        if self.rows.knows_behind(view, ask.key()) {
+            return self.give(alloc, ask, out);
+        }
+        if self.rows.has_begun_behind(view, ask.key()) {
+            self.pending.push(ask)?;
+            return Ok(());
+        }
+        let needed = self.rows.behind(alloc, view, ask.key())?;
         self.ask_for(alloc, &needed, out)?;
         self.answer(alloc, ask, &needed, out)
     }
