@@ -7,9 +7,9 @@ use std::collections::VecDeque;
 use std::marker::Model;
 
 /// For how many messages an empty queue keeps room.
-const KEPT: usize = 256;
+const KEPT: usize = 32;
 
-/// Queues of messages, one for each edge. A contract sees a list of lists. Room for up to 256
+/// Queues of messages, one for each edge. A contract sees a list of lists. Room for up to 32
 /// messages that a queue has once taken it keeps, so that queues which are filled and emptied in
 /// turn soon take no more memory; the room of more it gives back when it is empty.
 #[derive(Drop)]
