@@ -16,6 +16,9 @@ const AUTHORS: usize = STORIES / OF_AUTHOR;
 const VOTES: usize = 2;
 const HITS: usize = 200000;
 const COLD: usize = 2000;
+const FIRSTS: usize = 500;
+const NEW_STORIES: usize = 7 * FIRSTS * OF_AUTHOR;
+const NEW_VOTES: usize = 10;
 const WRITES: usize = 2000;
 const MIXED: usize = 40000;
 const MANY: usize = 100000;
@@ -54,7 +57,7 @@ pub trait Peer: Send + Sync {
 pub trait Session: Send {
     fn add_vote(&mut self, id: usize, story: usize);
     fn read(&mut self, author: usize) -> Vec<Row>;
-    /// A read of an author that was evicted.
+    /// A read of an author that is not shown.
     fn read_anew(&mut self, author: usize) -> Vec<Row>;
 }
 
@@ -105,6 +108,11 @@ fn hit(session: &mut dyn Session, part: usize, _threads: usize) {
 fn read_cold(session: &mut dyn Session, part: usize, threads: usize) {
     let rows: usize = (0..COLD).map(|read| session.read_anew((read * threads + part) % AUTHORS).len()).sum();
     assert_eq!(rows, COLD * OF_AUTHOR);
+}
+
+fn read_first(session: &mut dyn Session, part: usize, _threads: usize) {
+    let rows: usize = (0..FIRSTS).map(|read| session.read_anew(part * FIRSTS + read).len()).sum();
+    assert_eq!(rows, FIRSTS * OF_AUTHOR);
 }
 
 fn write(session: &mut dyn Session, part: usize, _threads: usize) {
@@ -193,6 +201,11 @@ fn main() {
         };
         if word == "memory" {
             memory(&peer);
+            continue;
+        }
+        if word == "first" {
+            load(&peer, NEW_STORIES, NEW_VOTES);
+            calls(&peer, FIRSTS, "first reads", read_first);
             continue;
         }
         load(&peer, STORIES, VOTES);
