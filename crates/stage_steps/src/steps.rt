@@ -202,8 +202,9 @@ impl<'p, F: Fronts> StageShard<'p, F> {
     /// of all of them are here it is answered with one packet to the view shard of its key, else it
     /// waits on. Errors: memory only; then nothing is said of the shard, and some are told or
     /// asked. Cost: for each request at most three look-ups by hash for each left row of its key, and
-    /// where one of the stage keys is a hole a copy of each; for a key that begins to wait a copy of
-    /// it for each right source; for an answer that of `StageRows::piece` and a copy of the line.
+    /// where one of the stage keys is a hole as many again and a copy of each; for a key that begins
+    /// to wait a copy of it for each right source; for an answer that of `StageRows::piece` and a copy
+    /// of the line.
     fn look(&mut self, alloc: Global, out: &mut StageOutbox<F>) -> Result<(), AllocError>
         requires whole { IsShard self.old }
         requires edges { AreEdges self.old.plan out.old }
