@@ -12,9 +12,9 @@ use Rattle.model.specs.Places.{sources}
 use Rattle.model.specs.Queries.{Line}
 use Rattle.ops.specs.SideRows.{Rows}
 use Rattle.packet.specs.Keys.{Keys, begin_at}
-use Rattle.packet.specs.Messages.{Ask, Sent, none_of}
+use Rattle.packet.specs.Messages.{Ask, none_of}
 use Rattle.packet.specs.Outboxes.{packets_on}
-use Rattle.packet.specs.Readers.{Reader, is_left, readers, right_tag}
+use Rattle.packet.specs.Readers.{is_left, readers, right_tag}
 use Rattle.protocol.specs.Stages.{Done, Stage}
 use Rattle.protocol.specs.StageSteps.{append_each, asks, asks_for, begins, begins_of, quiet, right_count, starts, starts_of}
 use Rattle.right_rows.specs.Rights.{keys_in}
@@ -22,7 +22,7 @@ use Rattle.stage_sides.specs.Held.{Held}
 use Rattle.stage_sides.proofs.Unmoved.{begins_none as shut_stays}
 use Rattle.stage_sides.specs.Sides.{is_open}
 use Rattle.stage_steps.specs.Outboxes.{AreEdges, OutboxView}
-use Rattle.stage_steps.specs.Shards.{HoldsRight, IsPut, IsShard, Shard, stage_of}
+use Rattle.stage_steps.specs.Shards.{HoldsRight, IsPut, IsWhole, Shard, stage_of}
 use Rattle.stage_steps.proofs.Appends.{append_assoc_each, append_maps}
 use Rattle.stage_steps.proofs.Puts.{after, no_asks, put_asked}
 use Rattle.stage_steps.proofs.Wholes.{keys_by}
@@ -86,7 +86,7 @@ as_many (a ∷ as_) (b ∷ bs) e = ap (λ l. [] ∷ l) (as_many as_ bs (omega (a
 asks_none : (p : Layout) → asks_for p [] ≡ none_of (sources p)
 asks_none p = (λ i. map (λ j. none_at p j i) (range_with_len 0 (length (sources p)))) ∙ as_many (range_with_len 0 (length (sources p))) (sources p) (length-range_with_len 0 (length (sources p)))
 
-none_twice : (rs : List Reader) → append_each (none_of {X = Sent} rs) (none_of rs) ≡ none_of rs
+pub none_twice : {A X : Type 0} (rs : List A) → append_each (none_of {X = X} rs) (none_of rs) ≡ none_of rs
 none_twice [] = refl
 none_twice (r ∷ rs) = ap (λ l. [] ∷ l) (none_twice rs)
 
@@ -116,7 +116,7 @@ pub both_hold : (a b : Bool) → (a && b) ≡ true → (a ≡ true) × (b ≡ tr
 both_hold true b e = (refl, e)
 both_hold false b e = absurd (true≢false (sym e))
 
-shut_is : (b : Bool) → not b ≡ true → b ≡ false
+pub shut_is : (b : Bool) → not b ≡ true → b ≡ false
 shut_is true e = sym e
 shut_is false e = refl
 
@@ -156,7 +156,7 @@ begun_by p s None fronts right k none =
     ap (option_map (begin_at right.sources k)) is ∙ sym (ap (option_map (begin_at (right_count p) k)) is)
 begun_by p s (Some side) fronts right k h = ap (λ n. option_map (begin_at n k) (keys_in right)) h.1
 
-module _ (x : Shard) (rows : Held) (k : Datum) (b : Bool) (d : Done) (out new : OutboxView) (put : IsPut d out x) (whole : IsShard x) (edges : AreEdges x.plan out) (keys : keys_in rows.right ≡ option_map (begin_at x.rows.right.sources k) (keys_in x.rows.right))
+module _ (x : Shard) (rows : Held) (k : Datum) (b : Bool) (d : Done) (out new : OutboxView) (put : IsPut d out x) (whole : IsWhole x) (edges : AreEdges x.plan out) (keys : keys_in rows.right ≡ option_map (begin_at x.rows.right.sources k) (keys_in x.rows.right))
     (was : b ≡ is_open k (keys_in x.rows.right)) where
   begun_stage : stage_of (record x { rows = rows }) ≡ (asks (stage_of x) (k ∷ [])).stage
   begun_stage = ap (λ (o : Option Keys). record (stage_of x) { right = o }) (keys ∙ (begun_by x.plan x.shard x.plan.right _ x.rows.right k whole.rows.right ∙ sym (begun_one (right_count x.plan) k (keys_in x.rows.right))))

@@ -33,7 +33,7 @@ use Rattle.right_rows.specs.Rights.{keys_in, state_in}
 use Rattle.stage_sides.specs.Held.{Held}
 use Rattle.stage_sides.specs.Kept.{is_kept, kept_rows, rows_kept}
 use Rattle.stage_steps.specs.Outboxes.{AreEdges, OutboxView}
-use Rattle.stage_steps.specs.Shards.{HoldsRight, IsFrom, IsPut, IsShard, Shard, stage_of}
+use Rattle.stage_steps.specs.Shards.{HoldsRight, IsFrom, IsPut, IsWhole, Shard, stage_of}
 use Rattle.stage_steps.proofs.Fronts.{all_of, drop_get, front_at, right_is, right_room, right_table, share_of}
 use Rattle.stage_steps.proofs.LeftRows.{each_of}
 use Rattle.stage_steps.proofs.Puts.{after, put_quiet}
@@ -70,7 +70,7 @@ module _ (p : Layout) (s : ℕ) (side : SideLayout) (k : Datum) (front : List Ch
       ∙ ap (sorted row_cmp) (both_kept (is_row (table_at p side.table).columns) (pass side.conditions) (has side.key k) own_rows are_rows)
 
 -- ---- a packet of a right source
-module _ (x : Shard) (facts : Facts x.plan) (whole : IsShard x) (j : ℕ) (k : BasePacketView) (from : IsFrom x.plan x.shard j k) (at : slice_get (entries_of x.line) j ≡ Some k.from) (apart : is_left x.plan j ≡ false) (piece : Piece)
+module _ (x : Shard) (facts : Facts x.plan) (whole : IsWhole x) (j : ℕ) (k : BasePacketView) (from : IsFrom x.plan x.shard j k) (at : slice_get (entries_of x.line) j ≡ Some k.from) (apart : is_left x.plan j ≡ false) (piece : Piece)
     (own : piece.rows ≡ base_piece k.plan k.base k.stage k.from piece.tag piece.key) (tag : piece.tag ≡ right_tag) where
   abbrev n : ℕ
   n = side_count x.plan x.plan.left
@@ -132,7 +132,7 @@ module _ (x : Shard) (facts : Facts x.plan) (whole : IsShard x) (j : ℕ) (k : B
 
     module _ (new : Held) (others : new ≡ record x.rows { right = new.right }) (sources_same : new.right.sources ≡ x.rows.right.sources) (keys : keys_in new.right ≡ option_map (give_at i d) (keys_in x.rows.right)) where
       pub fed_whole : ((v : Value) (parts : List (List Cells)) → (d ≡ datum_of v → slice_get parts i ≡ Some (sorted row_cmp (kept_rows x.rows.plan rows))) → IsTrueOf sum_of_bags parts (state_in x.rows.right (datum_of v)) → IsTrueOf sum_of_bags parts (state_in new.right (datum_of v)))
-          → IsShard (record x { rows = new })
+          → IsWhole (record x { rows = new })
       fed_whole truth =
           let held : HoldsRight x.plan x.shard (Some side) fronts x.rows.right = subst (λ o. HoldsRight x.plan x.shard o fronts x.rows.right) room.1 whole.rows.right in
           let after_it : HoldsRight x.plan x.shard (Some side) fronts new.right = (some_after x.rows.right new.right (give_at i d) keys held.0, sources_same ∙ held.1, λ v. truth v (right_shares x.plan x.shard side (datum_of v) fronts) (shares_at (datum_of v)) (held.2 v)) in

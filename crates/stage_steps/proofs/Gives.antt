@@ -24,7 +24,7 @@ use Rattle.protocol.specs.StageSteps.{answered, append_each, quiet, with_piece}
 use Rattle.right_rows.specs.Rights.{keys_in}
 use Rattle.stage_sides.specs.Sides.{is_known}
 use Rattle.stage_steps.specs.Outboxes.{AreEdges, OutboxView}
-use Rattle.stage_steps.specs.Shards.{IsPut, IsShard, IsTo, Shard, given, stage_of}
+use Rattle.stage_steps.specs.Shards.{IsPut, IsWhole, IsTo, Shard, given, stage_of}
 use Rattle.stage_steps.specs.Told.{answer_of}
 use Rattle.stage_steps.proofs.Appends.{append_nothing}
 use Rattle.stage_steps.proofs.Goes.{for_none}
@@ -123,7 +123,7 @@ put_later x a pending d out needed put edges known more =
     (ap (λ (s : Stage). answered s a needed) (sym put.stage) ∙ (e ∙ ap (λ p. quiet (record (stage_of x) { pending = p })) (sym more)))
 
 -- one request more waits
-pub later_whole : (x : Shard) (a : Ask) (pending : List Ask) → IsShard x → view_of a.tag < length x.plan.views → pending ≡ x.pending ++ a ∷ [] → IsShard (record x { pending = pending })
+pub later_whole : (x : Shard) (a : Ask) (pending : List Ask) → IsWhole x → view_of a.tag < length x.plan.views → pending ≡ x.pending ++ a ∷ [] → IsWhole (record x { pending = pending })
 later_whole x a pending whole there more = record {
   shard = whole.shard;
   of = whole.of;

@@ -31,3 +31,4 @@ pub mod Takes
 pub mod Moves
 pub mod Joined
 pub mod Waiting
+pub mod Settled

@@ -12,7 +12,7 @@ use Rattle.packet.specs.Readers.{view_of}
 use Rattle.protocol.specs.Stages.{Done, Stage, behind}
 use Rattle.protocol.specs.StageSteps.{answered, asks, look, look_all, looks, quiet}
 use Rattle.stage_steps.specs.Outboxes.{AreEdges, OutboxView}
-use Rattle.stage_steps.specs.Shards.{IsPut, IsShard, Shard, stage_of}
+use Rattle.stage_steps.specs.Shards.{IsPut, IsWhole, Shard, stage_of}
 use Rattle.stage_steps.proofs.Begins.{after_assoc}
 use Rattle.stage_steps.proofs.Puts.{after, put_quiet}
 
@@ -40,14 +40,14 @@ put_looked d out new x y done put all edges is =
     let all_of : done ≡ d.stage.pending = all ∙ ap (λ (s : Stage). s.pending) put.stage in
     subst (λ as_. IsPut (after d (look_all as_ (record d.stage { pending = [] }))) new y) all_of (looked_all done (waiting_none d) new y edges is)
 
-pub none_waiting : (x : Shard) → IsShard x → IsShard (record x { pending = [] })
+pub none_waiting : (x : Shard) → IsWhole x → IsWhole (record x { pending = [] })
 none_waiting x whole = record { shard = whole.shard; of = whole.of; fronts = whole.fronts; senders = whole.senders; rows = whole.rows; pending = tt }
 
 pub put_waiting_none : (d : Done) (out : OutboxView) (x : Shard) → IsPut d out x → IsPut (waiting_none d) out (record x { pending = [] })
 put_waiting_none d out x put = record { stage = ap (λ (s : Stage). record s { pending = [] }) put.stage; sent = put.sent; asks = put.asks; to = put.to }
 
 -- ---- one request: what it needs
-pub behind_is : (x : Shard) (i j : ℕ) (k m : Datum) → IsShard x → IsAscending row_cmp x.rows.lefts → i ≡ j → k ≡ m
+pub behind_is : (x : Shard) (i j : ℕ) (k m : Datum) → IsWhole x → IsAscending row_cmp x.rows.lefts → i ≡ j → k ≡ m
     → map (λ l. cell_at l x.rows.plan.left.key) (filter (has (view_at x.rows.plan i).key k) x.rows.lefts) ≡ behind (stage_of x) j m
 behind_is x i j k m whole up at is =
     let lefts = one_list row_cmp row_total row_same x.rows.lefts (sorted row_cmp (left x.plan x.shard (entries_of x.line))) up (IsAscending-sorted row_cmp row_total (left x.plan x.shard (entries_of x.line)))

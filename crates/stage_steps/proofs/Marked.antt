@@ -14,7 +14,7 @@ use Rattle.protocol.proofs.Runs.{line_self}
 use Rattle.protocol.specs.Stages.{Done, Stage}
 use Rattle.protocol.specs.StageSteps.{append_each, marker_taken, with_marker}
 use Rattle.stage_steps.specs.Outboxes.{AreEdges, OutboxView}
-use Rattle.stage_steps.specs.Shards.{IsPut, IsShard, IsTo, Shard, stage_of}
+use Rattle.stage_steps.specs.Shards.{IsPut, IsWhole, IsTo, Shard, stage_of}
 use Rattle.stage_steps.specs.Told.{perhaps, told, told_if}
 use Rattle.stage_steps.proofs.Goes.{for_none}
 use Rattle.stage_steps.proofs.Puts.{after, no_asks, no_packets, put_after}
@@ -58,10 +58,10 @@ module _ (p : Layout) (s : ℕ) (line : Line) where
   all_to ms [] = tt
   all_to ms (r ∷ rs) = (to_reader r ms, all_to ms rs)
 
-pub marked_whole : (x : Shard) (marks : MarksView) → IsShard x → marks.senders ≡ x.marks.senders → IsShard (record x { marks = marks })
+pub marked_whole : (x : Shard) (marks : MarksView) → IsWhole x → marks.senders ≡ x.marks.senders → IsWhole (record x { marks = marks })
 marked_whole x marks whole same = record { shard = whole.shard; of = whole.of; fronts = whole.fronts; senders = same ∙ whole.senders; rows = whole.rows; pending = whole.pending }
 
-module _ (x : Shard) (j : ℕ) (m : Mark) (marks : MarksView) (whole : IsShard x) (d : Done) (out new : OutboxView) (put : IsPut d out x) (edges : AreEdges x.plan out) (came : marks ≡ record x.marks { waiting = partly (come x.marks.senders j m x.marks.waiting) }) where
+module _ (x : Shard) (j : ℕ) (m : Mark) (marks : MarksView) (whole : IsWhole x) (d : Done) (out new : OutboxView) (put : IsPut d out x) (edges : AreEdges x.plan out) (came : marks ≡ record x.marks { waiting = partly (come x.marks.senders j m x.marks.waiting) }) where
   abbrev all : List Gathering
   all = come (length (sources x.plan)) j m x.marks.waiting
 

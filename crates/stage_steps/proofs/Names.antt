@@ -22,7 +22,7 @@ use Rattle.packet.specs.Truth.{IsTrueStage}
 use Rattle.plan.specs.Layouts.{Layout, ViewLayout, no_view, view_at}
 use Rattle.protocol.specs.Stages.{of_stage_key}
 use Rattle.stage_sides.specs.Held.{IsSetOf}
-use Rattle.stage_steps.specs.Shards.{IsShard, Shard, gone_names, gone_to, stage_of}
+use Rattle.stage_steps.specs.Shards.{IsWhole, Shard, gone_names, gone_to, stage_of}
 use Rattle.stage_steps.specs.Told.{names_in, perhaps, told, told_if}
 use Rattle.stage_steps.proofs.Truths.{still_true}
 use Rattle.std.proofs.lemmas.Simd.{map-map}
@@ -61,7 +61,7 @@ abbrev pub named_by : Shard → Datum → ViewLayout → List Datum
 named_by x k v = sorted datum_cmp (keys_of v.key (of_stage_key (stage_of x) k))
 
 -- one view more
-pub names_more : (x : Shard) (k : Datum) (i : ℕ) (names then : List (Vec Value Global)) (v : Vec Value Global) → IsShard x → i < length x.plan.views → names_in names ≡ map (named_by x k) (take i x.plan.views) → then ≡ names ++ v ∷ []
+pub names_more : (x : Shard) (k : Datum) (i : ℕ) (names then : List (Vec Value Global)) (v : Vec Value Global) → IsWhole x → i < length x.plan.views → names_in names ≡ map (named_by x k) (take i x.plan.views) → then ≡ names ++ v ∷ []
     → IsSetOf (map (λ l. cell_at l (view_at x.rows.plan i).key) (filter (has x.rows.plan.left.key k) x.rows.lefts)) (map datum_of v.items) → names_in then ≡ map (named_by x k) (take (i + 1) x.plan.views)
 names_more x k i names then v whole lt before put set =
     let set' = subst (λ (p : Layout). IsSetOf (map (λ l. cell_at l (view_at p i).key) (filter (has p.left.key k) x.rows.lefts)) (map datum_of v.items)) whole.rows.plan set in
@@ -78,7 +78,7 @@ ascends_at x k (v ∷ vs) zero = ascends_keys v.key (of_stage_key (stage_of x) k
 ascends_at x k (v ∷ vs) (suc i) = ascends_at x k vs i
 
 -- what is told is true
-pub gone_true : (x : Shard) (k : Datum) (names : List (List Datum)) → IsShard x → names ≡ gone_names x k → (r : Reader) → IsTrueStage (told x.plan x.shard (entries_of x.line) (entries_of x.line) [] names None r)
+pub gone_true : (x : Shard) (k : Datum) (names : List (List Datum)) → IsWhole x → names ≡ gone_names x k → (r : Reader) → IsTrueStage (told x.plan x.shard (entries_of x.line) (entries_of x.line) [] names None r)
 gone_true x k names whole is r =
     still_true x.plan x.shard (entries_of x.line) names whole.fronts r
     (ascends_filter (λ k. is_of x.plan r.view k r) (slice_index_or names r.view []) (subst (λ ns. Ascends (slice_index_or ns r.view [])) (sym is) (ascends_at x k x.plan.views r.view)))

@@ -32,7 +32,7 @@ use Rattle.right_rows.specs.Rights.{keys_in}
 use Rattle.stage_sides.specs.Held.{output_over}
 use Rattle.stage_sides.specs.Sides.{is_known}
 use Rattle.stage_sides.proofs.Pieces.{joins, totals}
-use Rattle.stage_steps.specs.Shards.{HoldsRight, IsShard, Shard, stage_of}
+use Rattle.stage_steps.specs.Shards.{HoldsRight, IsWhole, Shard, stage_of}
 use Rattle.stage_steps.proofs.Here.{can_name, row_can, rows_named_at}
 use Rattle.stage_steps.specs.Told.{answer_of}
 use Rattle.stage_steps.proofs.Lines.{shorter_is}
@@ -76,7 +76,7 @@ knows_here None k h = h
 knows_here (Some keys) k h = h
 
 -- ---- a view's key
-module _ (x : Shard) (facts : Facts x.plan) (alloc : Global) (whole : IsShard x) (column : x.rows.right.column ≡ right_key x.rows.plan.right) (known : (k : Datum) → is_here x.rows.right k ≡ is_known k (keys_in x.rows.right)) where
+module _ (x : Shard) (facts : Facts x.plan) (alloc : Global) (whole : IsWhole x) (column : x.rows.right.column ≡ right_key x.rows.plan.right) (known : (k : Datum) → is_here x.rows.right k ≡ is_known k (keys_in x.rows.right)) where
   module _ (i : ℕ) (view : i < length x.plan.views) (k : Datum) (all : list_all (knows (keys_in x.rows.right)) (behind (stage_of x) i k) ≡ true) where
     abbrev ls : List Cells
     ls = sorted row_cmp (left x.plan x.shard (entries_of x.line))

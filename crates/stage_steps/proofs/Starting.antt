@@ -18,7 +18,7 @@ use Rattle.packet.specs.Truth.{IsFrontOf, Pointwise}
 use Rattle.protocol.specs.StageSteps.{right_count}
 use Rattle.right_rows.specs.Rights.{keys_in}
 use Rattle.stage_sides.specs.Held.{AreFound, Held, no_rights, sources_of}
-use Rattle.stage_steps.specs.Shards.{HoldsRight, IsShard, Shard, stage_of}
+use Rattle.stage_steps.specs.Shards.{HoldsRight, IsShard, IsWhole, Shard, stage_of}
 
 empty_front : (p : Layout) (b : ℕ) (es : List Change) → es ≡ [] → IsFrontOf p b es
 empty_front p b es e = rw e (record { fitting = tt; room = omega arith })
@@ -68,7 +68,7 @@ module _ (p : Layout) (s : ℕ) (line : List LogView) (rows : Held) (n m : ℕ) 
   all_sources : n ≡ length (sources p)
   all_sources = count ∙ line_size p (sources p) line of
 
-  pub new_whole : IsShard new
+  new_whole : IsWhole new
   new_whole = record {
     shard = lt;
     of = of;
@@ -82,6 +82,9 @@ module _ (p : Layout) (s : ℕ) (line : List LogView) (rows : Held) (n m : ℕ) 
     };
     pending = rw none tt;
   }
+
+  pub new_shard : IsShard new
+  new_shard = record { whole = new_whole; waits = rw none tt }
 
   pub new_stage : stage_of new ≡ record { plan = p; shard = s; line = entries_of line; right = option_map (λ side. no_keys) p.right; pending = []; asked = None; marks = [] }
   new_stage = λ i. record { plan = p; shard = s; line = entries_of line; right = (ap keys_in right ∙ keys_none (right_key p.right) (aggregate_of_right (shape_of p.right p.aggregate)) p.right m) i; pending = none i; asked = None; marks = (no_marks i).waiting }

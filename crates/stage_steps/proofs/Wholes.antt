@@ -16,7 +16,7 @@ use Rattle.packet.specs.Truth.{IsFrontOf, Pointwise, right_shares}
 use Rattle.protocol.specs.StageSteps.{right_count}
 use Rattle.right_rows.specs.Rights.{keys_in, state_in}
 use Rattle.stage_sides.specs.Held.{AreFound, Held}
-use Rattle.stage_steps.specs.Shards.{HoldsRight, IsShard, Shard}
+use Rattle.stage_steps.specs.Shards.{HoldsRight, IsWhole, Shard}
 
 abbrev pub keys_by : Rows → List Datum → Keys
 keys_by i order = record { at = λ k. stand_of (state_in i k); order = order }
@@ -57,11 +57,11 @@ line_length p [] (f ∷ line) h = absurd h
 line_length p (b ∷ bs) [] h = absurd h
 line_length p (b ∷ bs) (f ∷ line) h = ap suc (line_length p bs line h.1)
 
-pub count_is : (x : Shard) → IsShard x → length (drop (side_count x.plan x.plan.left) (entries_of x.line)) ≡ right_count x.plan
+pub count_is : (x : Shard) → IsWhole x → length (drop (side_count x.plan x.plan.left) (entries_of x.line)) ≡ right_count x.plan
 count_is x whole = omega (arith, length-drop (side_count x.plan x.plan.left) (entries_of x.line), line_length x.plan (sources x.plan) (entries_of x.line) whole.fronts)
 
 -- with another right side that is true
-pub with_right : (x : Shard) (rows : Held) → IsShard x → rows ≡ record x.rows { right = rows.right } → HoldsRight x.plan x.shard x.plan.right (drop (side_count x.plan x.plan.left) (entries_of x.line)) rows.right → IsShard (record x { rows = rows })
+pub with_right : (x : Shard) (rows : Held) → IsWhole x → rows ≡ record x.rows { right = rows.right } → HoldsRight x.plan x.shard x.plan.right (drop (side_count x.plan x.plan.left) (entries_of x.line)) rows.right → IsWhole (record x { rows = rows })
 with_right x rows whole is right = record {
   shard = whole.shard;
   of = whole.of;
@@ -76,7 +76,7 @@ with_right x rows whole is right = record {
   pending = whole.pending;
 }
 
-pub still_whole : (x : Shard) (rows : Held) → IsShard x → rows ≡ record x.rows { right = rows.right } → rows.right.sources ≡ x.rows.right.sources → (f : Keys → Keys) → keys_in rows.right ≡ option_map f (keys_in x.rows.right)
-    → ((k : Value) (parts : List (List Cells)) → length parts ≡ x.rows.right.sources → IsTrueOf sum_of_bags parts (state_in x.rows.right (datum_of k)) → IsTrueOf sum_of_bags parts (state_in rows.right (datum_of k))) → IsShard (record x { rows = rows })
+pub still_whole : (x : Shard) (rows : Held) → IsWhole x → rows ≡ record x.rows { right = rows.right } → rows.right.sources ≡ x.rows.right.sources → (f : Keys → Keys) → keys_in rows.right ≡ option_map f (keys_in x.rows.right)
+    → ((k : Value) (parts : List (List Cells)) → length parts ≡ x.rows.right.sources → IsTrueOf sum_of_bags parts (state_in x.rows.right (datum_of k)) → IsTrueOf sum_of_bags parts (state_in rows.right (datum_of k))) → IsWhole (record x { rows = rows })
 still_whole x rows whole is same f keys keeps =
     with_right x rows whole is (keep_right x.rows.right rows.right f keys x.plan x.shard x.plan.right (drop (side_count x.plan x.plan.left) (entries_of x.line)) (count_is x whole) whole.rows.right same keeps)

@@ -1,5 +1,7 @@
 -- What a stage shard holds, and what a part of a step makes of it.
-use Rattle.std.specs.Prelude.{◌≡◌, ◌<◌, ◌∷◌, ℕ, cond, drop, false, IsSome, length, List, [], map, None, Option, Some, slice_get}
+use Rattle.std.specs.Prelude.{◌≡◌, ◌<◌, ◌∷◌, ◌||◌, ℕ, Bool, cond, drop, false, not, true, IsSome, length, List, [], map, None, Option, Some, slice_get}
+use Rattle.std.specs.List.{list_all}
+use Rattle.std.specs.Option.{is_some}
 use Rattle.row.specs.Cells.{Datum, datum_of, row_cmp}
 use Rattle.row.specs.Bags.{Each, IsAlike}
 use Rattle.row.specs.declared.value.Value.{Value}
@@ -18,9 +20,10 @@ use Rattle.packet.specs.Outboxes.{EdgeView, packets_on}
 use Rattle.packet.specs.Readers.{Reader, is_of, readers, view_of}
 use Rattle.packet.specs.Truth.{IsLine, Pointwise, right_shares, sent_of}
 use Rattle.protocol.specs.StageSteps.{put, right_count, unknown, with_piece}
-use Rattle.protocol.specs.Stages.{Done, Stage, ToStage, of_stage_key, order, packet, request}
+use Rattle.protocol.specs.Stages.{Done, Stage, ToStage, behind, knows, of_stage_key, order, packet, request}
 use Rattle.right_rows.specs.Rights.{keys_in, state_in}
 use Rattle.stage_sides.specs.Held.{AreFound, Held}
+use Rattle.stage_sides.specs.Sides.{is_open}
 use Rattle.row.specs.declared.record.Record.{Record}
 use Rattle.stage_steps.specs.Outboxes.{OutboxView}
 use Rattle.stage_steps.specs.Sides.{names_of}
@@ -53,13 +56,26 @@ pub record HoldsRows (p : Layout) (s : ℕ) (line : Line) (rows : Held) : Type 0
   pub right : HoldsRight p s p.right (drop (side_count p p.left) line) rows.right
 
 -- a stage shard of its plan, with the rows of its line; the requests that wait are of views
-pub record IsShard (x : Shard) : Type 0 where
+pub record IsWhole (x : Shard) : Type 0 where
   pub shard : x.shard < x.plan.stages
   pub of : AreOf x.plan x.line
   pub fronts : IsLine x.plan (entries_of x.line)
   pub senders : x.marks.senders ≡ length (sources x.plan)
   pub rows : HoldsRows x.plan x.shard (entries_of x.line) x.rows
   pub pending : Each (λ (a : Ask). view_of a.tag < length x.plan.views) x.pending
+
+-- of the stage keys behind the request some right rows are lacking, and none of these keys is a hole
+abbrev pub Waits : Stage → Ask → Type 0
+Waits s a = let needed = behind s (view_of a.tag) a.key in (list_all (knows s.right) needed ≡ false) × (list_all (λ x. not (is_open x s.right)) needed ≡ true)
+
+-- each request that waits has to
+abbrev pub AllWait : Stage → Type 0
+AllWait s = Each (Waits s) s.pending
+
+-- the same between two messages: each request that waits was looked at, and has to wait on
+pub record IsShard (x : Shard) : Type 0 where
+  pub whole : IsWhole x
+  pub waits : AllWait (stage_of x)
 
 -- ---- messages
 -- the packet is from this source to this stage shard
@@ -99,6 +115,10 @@ abbrev pub Meets : Shard → ToStage → Type 0
 Meets x (packet j k) = IsFrom x.plan x.shard j k × (slice_get (entries_of x.line) j ≡ Some k.from)
 Meets x (request a) = view_of a.tag < length x.plan.views
 Meets x (order k) = Unit {0}
+
+-- a packet that brings no entry, but a piece or a marker
+abbrev pub has_no_entry : BasePacketView → Bool
+has_no_entry k = is_some k.piece || is_some k.marker
 
 -- a stage shard that has only this, as far as what it knows goes
 abbrev pub seen : Layout → ℕ → Line → Option Keys → Stage

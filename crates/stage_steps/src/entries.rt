@@ -5,7 +5,7 @@ ghost use Rattle.packet.specs.{Lines.AreOf, Lines.entries_of, Readers.readers, T
 ghost use Rattle.protocol.specs.{StageSteps.entry_taken, StageSteps.next, Stages.Done};
 ghost use Rattle.right_rows.specs.Rights.{keys_in};
 ghost use Rattle.stage_sides.specs.{Held.AreFound, Held.CanTakeAll, Held.untold_lefts, Kept.kept_at};
-ghost use Rattle.stage_steps.specs.{Outboxes.AreEdges, Rows.IsChanged, Rows.IsSeen, Shards.HoldsRows, Shards.IsFrom, Shards.IsPut, Shards.IsSame, Shards.IsShard, Shards.entry_names, Sides.names_of, Sides.passing_at, Sides.passing_of, Sides.right_source, Sides.source_side, Told.names_in, Told.told_if};
+ghost use Rattle.stage_steps.specs.{Outboxes.AreEdges, Rows.IsChanged, Rows.IsSeen, Shards.HoldsRows, Shards.IsFrom, Shards.IsPut, Shards.IsSame, Shards.IsWhole, Shards.entry_names, Sides.names_of, Sides.passing_at, Sides.passing_of, Sides.right_source, Sides.source_side, Told.names_in, Told.told_if};
 
 use crate::outbox::StageOutbox;
 use crate::packets::{News, packets};
@@ -36,11 +36,11 @@ impl<'p, F: Fronts> StageShard<'p, F> {
         packet: BasePacket<F>,
         out: &mut StageOutbox<F>,
     ) -> Result<(), AllocError>
-        requires whole { IsShard self.old }
+        requires whole { IsWhole self.old }
         requires edges { AreEdges self.old.plan out.old }
         requires from { IsFrom self.old.plan self.old.shard source packet }
         requires next { slice_get (entries_of self.old.line) source ≡ Some packet.from }
-        ensures whole { OnOk result (IsShard self.new) }
+        ensures whole { OnOk result (IsWhole self.new) }
         ensures edges { AreEdges self.old.plan out.new }
         ensures same { IsSame self.old self.new }
         ensures done { (d : Done) → IsPut d out.old self.old

@@ -7,7 +7,7 @@ ghost use Rattle.model.specs.Places.{sources};
 ghost use Rattle.ops.specs.SideRows.{is_here};
 ghost use Rattle.packet.specs.{Codes.mark_of, Lines.entries_of, Messages.Piece as PieceView, Outboxes.packets_on, Readers.is_left, Readers.readers, Readers.right_tag, Readers.view_of};
 ghost use Rattle.protocol.specs.{Stages.Done, Stages.behind, Stages.knows, StageSteps.answered, StageSteps.append_each, StageSteps.asks, StageSteps.asks_for, StageSteps.caps, StageSteps.look, StageSteps.looks, StageSteps.marker_taken, StageSteps.next, StageSteps.oldest_goes, StageSteps.order_taken, StageSteps.packet_taken, StageSteps.piece_taken, StageSteps.quiet, StageSteps.step, StageSteps.takes};
-ghost use Rattle.stage_steps.specs.{Codes.message_of, Outboxes.AreEdges, Outboxes.IsSilent, Outboxes.OutboxView, Shards.IsFrom, Shards.IsPut, Shards.IsSame, Shards.IsShard, Shards.Meets, Shards.given, Shards.gone_to, Shards.stage_of, Told.answer_of, Told.told};
+ghost use Rattle.stage_steps.specs.{Codes.message_of, Outboxes.AreEdges, Outboxes.IsSilent, Outboxes.OutboxView, Shards.IsFrom, Shards.IsPut, Shards.IsSame, Shards.IsShard, Shards.IsWhole, Shards.Meets, Shards.given, Shards.gone_to, Shards.has_no_entry, Shards.stage_of, Told.answer_of, Told.told};
 
 use crate::edges::{edge_to, view_of};
 use crate::entries::right_source;
@@ -32,7 +32,7 @@ impl<'p, F: Fronts> StageShard<'p, F> {
     /// Takes a message, looks at the requests that wait, and keeps to the cap. A packet starts at
     /// the front that the line has of its source. Errors: memory only; then nothing is said of the
     /// shard, and some of what it puts out may be put. Cost: that of what the message is, of `look`
-    /// and of `keep_cap`.
+    /// where the message may end the wait of a request, and of `keep_cap`.
     pub fn step(
         &mut self,
         alloc: Global,
@@ -50,11 +50,11 @@ impl<'p, F: Fronts> StageShard<'p, F> {
             out.new self.new) }
     {
         self.take(alloc, message, out)?;
-        self.look(alloc, out)?;
         self.keep_cap(alloc, out)
     }
 
-    /// Takes a message.
+    /// Takes a message, and looks at the requests that wait where it may end the wait of one: a
+    /// request makes none before it ready.
     fn take(
         &mut self,
         alloc: Global,
@@ -64,24 +64,22 @@ impl<'p, F: Fronts> StageShard<'p, F> {
         requires whole { IsShard self.old }
         requires edges { AreEdges self.old.plan out.old }
         requires meets { Meets self.old (message_of message) }
-        ensures whole { OnOk result (IsShard self.new) }
+        ensures whole { OnOk result (IsWhole self.new) }
         ensures edges { AreEdges self.old.plan out.new }
         ensures same { IsSame self.old self.new }
         ensures done { (d : Done) → IsPut d out.old self.old → OnOk result (IsPut
-            (next d (λ s. takes s (message_of message))) out.new self.new) }
+            (next (next d (λ s. takes s (message_of message))) looks) out.new self.new) }
     {
         match message {
-            ToStage::Packet { source, packet } => self.take_packet(alloc, source, packet, out),
-            ToStage::Request(ask) => {
-                self.pending.push(ask)?;
-                Ok(())
-            }
-            ToStage::Order(key) => self.evict(alloc, &key, out),
+            ToStage::Packet { source, packet } => self.take_and_look(alloc, source, packet, out),
+            ToStage::Request(ask) => self.look_at(alloc, ask, out),
+            ToStage::Order(key) => self.evict_and_look(alloc, &key, out),
         }
     }
 
-    /// Takes a packet, by what it carries.
-    fn take_packet(
+    /// Takes a packet, and looks at the requests that wait, unless it brings no entry and fills no
+    /// stage key.
+    fn take_and_look(
         &mut self,
         alloc: Global,
         source: usize,
@@ -92,7 +90,54 @@ impl<'p, F: Fronts> StageShard<'p, F> {
         requires edges { AreEdges self.old.plan out.old }
         requires from { IsFrom self.old.plan self.old.shard source packet }
         requires next { slice_get (entries_of self.old.line) source ≡ Some packet.from }
-        ensures whole { OnOk result (IsShard self.new) }
+        ensures whole { OnOk result (IsWhole self.new) }
+        ensures edges { AreEdges self.old.plan out.new }
+        ensures same { IsSame self.old self.new }
+        ensures done { (d : Done) → IsPut d out.old self.old → OnOk result (IsPut (next (next d
+            (λ s. packet_taken s source packet packet.piece packet.marker)) looks)
+            out.new self.new) }
+    {
+        let has_no_entry = brings_no_entry(&packet);
+        let filled = self.rows.filled();
+        self.take_packet(alloc, source, packet, out)?;
+        if has_no_entry && self.rows.filled() == filled {
+            return Ok(());
+        }
+        self.look(alloc, out)
+    }
+
+    /// Makes a filled stage key a hole, as `evict` does, and looks at the requests that wait.
+    fn evict_and_look(
+        &mut self,
+        alloc: Global,
+        key: &Value,
+        out: &mut StageOutbox<F>,
+    ) -> Result<(), AllocError>
+        requires whole { IsShard self.old }
+        requires edges { AreEdges self.old.plan out.old }
+        ensures whole { OnOk result (IsWhole self.new) }
+        ensures edges { AreEdges self.old.plan out.new }
+        ensures same { IsSame self.old self.new }
+        ensures done { (d : Done) → IsPut d out.old self.old → OnOk result (IsPut (next (next d
+            (λ s. order_taken s s.right (datum_of key.now))) looks) out.new self.new) }
+    {
+        self.evict(alloc, key, out)?;
+        self.look(alloc, out)
+    }
+
+    /// Takes a packet, by what it carries.
+    fn take_packet(
+        &mut self,
+        alloc: Global,
+        source: usize,
+        packet: BasePacket<F>,
+        out: &mut StageOutbox<F>,
+    ) -> Result<(), AllocError>
+        requires whole { IsWhole self.old }
+        requires edges { AreEdges self.old.plan out.old }
+        requires from { IsFrom self.old.plan self.old.shard source packet }
+        requires next { slice_get (entries_of self.old.line) source ≡ Some packet.from }
+        ensures whole { OnOk result (IsWhole self.new) }
         ensures edges { AreEdges self.old.plan out.new }
         ensures same { IsSame self.old self.new }
         ensures done { (d : Done) → IsPut d out.old self.old → OnOk result (IsPut (next d
@@ -117,10 +162,10 @@ impl<'p, F: Fronts> StageShard<'p, F> {
         marker: Marker,
         out: &mut StageOutbox<F>,
     ) -> Result<(), AllocError>
-        requires whole { IsShard self.old }
+        requires whole { IsWhole self.old }
         requires edges { AreEdges self.old.plan out.old }
         requires source { source < length (sources self.old.plan) }
-        ensures whole { OnOk result (IsShard self.new) }
+        ensures whole { OnOk result (IsWhole self.new) }
         ensures edges { AreEdges self.old.plan out.new }
         ensures same { IsSame self.old self.new }
         ensures done { (d : Done) → IsPut d out.old self.old → OnOk result (IsPut
@@ -139,7 +184,7 @@ impl<'p, F: Fronts> StageShard<'p, F> {
         marker: Marker,
         out: &mut StageOutbox<F>,
     ) -> Result<(), AllocError>
-        requires whole { IsShard self.now }
+        requires whole { IsWhole self.now }
         requires edges { AreEdges self.now.plan out.old }
         ensures edges { AreEdges self.now.plan out.new }
         ensures requests { out.new.requests ≡ out.old.requests }
@@ -172,10 +217,10 @@ impl<'p, F: Fronts> StageShard<'p, F> {
         source: usize,
         packet: BasePacket<F>,
     ) -> Result<(), AllocError>
-        requires whole { IsShard self.old }
+        requires whole { IsWhole self.old }
         requires from { IsFrom self.old.plan self.old.shard source packet }
         requires next { slice_get (entries_of self.old.line) source ≡ Some packet.from }
-        ensures whole { OnOk result (IsShard self.new) }
+        ensures whole { OnOk result (IsWhole self.new) }
         ensures same { IsSame self.old self.new }
         ensures done { (d : Done) (out : OutboxView) (piece : PieceView)
             → packet.piece ≡ Some piece → AreEdges self.old.plan out → IsPut d out self.old
@@ -206,9 +251,9 @@ impl<'p, F: Fronts> StageShard<'p, F> {
     /// to wait a copy of it for each right source; for an answer that of `StageRows::piece` and a copy
     /// of the line.
     fn look(&mut self, alloc: Global, out: &mut StageOutbox<F>) -> Result<(), AllocError>
-        requires whole { IsShard self.old }
+        requires whole { IsWhole self.old }
         requires edges { AreEdges self.old.plan out.old }
-        ensures whole { OnOk result (IsShard self.new) }
+        ensures whole { OnOk result (IsWhole self.new) }
         ensures edges { AreEdges self.old.plan out.new }
         ensures same { IsSame self.old self.new }
         ensures done { (d : Done) → IsPut d out.old self.old
@@ -229,10 +274,10 @@ impl<'p, F: Fronts> StageShard<'p, F> {
         ask: Request,
         out: &mut StageOutbox<F>,
     ) -> Result<(), AllocError>
-        requires whole { IsShard self.old }
+        requires whole { IsWhole self.old }
         requires edges { AreEdges self.old.plan out.old }
         requires there { view_of ask.tag < length self.old.plan.views }
-        ensures whole { OnOk result (IsShard self.new) }
+        ensures whole { OnOk result (IsWhole self.new) }
         ensures edges { AreEdges self.old.plan out.new }
         ensures same { IsSame self.old self.new }
         ensures done { (d : Done) → IsPut d out.old self.old
@@ -259,9 +304,9 @@ impl<'p, F: Fronts> StageShard<'p, F> {
         keys: &[Value],
         out: &mut StageOutbox<F>,
     ) -> Result<(), AllocError>
-        requires whole { IsShard self.old }
+        requires whole { IsWhole self.old }
         requires edges { AreEdges self.old.plan out.old }
-        ensures whole { OnOk result (IsShard self.new) }
+        ensures whole { OnOk result (IsWhole self.new) }
         ensures edges { AreEdges self.old.plan out.new }
         ensures others { self.new ≡ record self.old { rows = self.new.rows } }
         ensures lefts { self.new.rows
@@ -282,9 +327,9 @@ impl<'p, F: Fronts> StageShard<'p, F> {
         key: &Value,
         out: &mut StageOutbox<F>,
     ) -> Result<(), AllocError>
-        requires whole { IsShard self.old }
+        requires whole { IsWhole self.old }
         requires edges { AreEdges self.old.plan out.old }
-        ensures whole { OnOk result (IsShard self.new) }
+        ensures whole { OnOk result (IsWhole self.new) }
         ensures edges { AreEdges self.old.plan out.new }
         ensures others { self.new ≡ record self.old { rows = self.new.rows } }
         ensures lefts { self.new.rows
@@ -307,12 +352,12 @@ impl<'p, F: Fronts> StageShard<'p, F> {
         needed: &[Value],
         out: &mut StageOutbox<F>,
     ) -> Result<(), AllocError>
-        requires whole { IsShard self.old }
+        requires whole { IsWhole self.old }
         requires edges { AreEdges self.old.plan out.old }
         requires there { view_of ask.tag < length self.old.plan.views }
         requires needed { map datum_of needed.now
             ≡ behind (stage_of self.old) (view_of ask.tag) ask.key }
-        ensures whole { OnOk result (IsShard self.new) }
+        ensures whole { OnOk result (IsWhole self.new) }
         ensures edges { AreEdges self.old.plan out.new }
         ensures same { IsSame self.old self.new }
         ensures done { (d : Done) → IsPut d out.old self.old → OnOk result (IsPut
@@ -328,7 +373,7 @@ impl<'p, F: Fronts> StageShard<'p, F> {
 
     /// Answers a request with one packet to the view shard of its key.
     fn give(&self, alloc: Global, ask: Request, out: &mut StageOutbox<F>) -> Result<(), AllocError>
-        requires whole { IsShard self.now }
+        requires whole { IsWhole self.now }
         requires edges { AreEdges self.now.plan out.old }
         requires there { view_of ask.tag < length self.now.plan.views }
         requires known { list_all (knows (stage_of self.now).right)
@@ -352,7 +397,7 @@ impl<'p, F: Fronts> StageShard<'p, F> {
         reader: Reader,
         ask: Request,
     ) -> Result<StagePacket<F>, AllocError>
-        requires whole { IsShard self.now }
+        requires whole { IsWhole self.now }
         requires there { reader.view < length self.now.plan.views }
         requires known { list_all (knows (stage_of self.now).right)
             (behind (stage_of self.now) reader.view ask.key) ≡ true }
@@ -384,9 +429,9 @@ impl<'p, F: Fronts> StageShard<'p, F> {
         key: &Value,
         out: &mut StageOutbox<F>,
     ) -> Result<(), AllocError>
-        requires whole { IsShard self.old }
+        requires whole { IsWhole self.old }
         requires edges { AreEdges self.old.plan out.old }
-        ensures whole { OnOk result (IsShard self.new) }
+        ensures whole { OnOk result (IsWhole self.new) }
         ensures edges { AreEdges self.old.plan out.new }
         ensures same { IsSame self.old self.new }
         ensures done { (d : Done) → IsPut d out.old self.old → OnOk result (IsPut
@@ -404,9 +449,9 @@ impl<'p, F: Fronts> StageShard<'p, F> {
     /// left rows of them. Errors: memory only; then nothing is said of the shard, and some are
     /// told. Cost: that of `tell_gone` for each key that goes.
     fn keep_cap(&mut self, alloc: Global, out: &mut StageOutbox<F>) -> Result<(), AllocError>
-        requires whole { IsShard self.old }
+        requires whole { IsWhole self.old }
         requires edges { AreEdges self.old.plan out.old }
-        ensures whole { OnOk result (IsShard self.new) }
+        ensures whole { OnOk result (IsWhole self.new) }
         ensures edges { AreEdges self.old.plan out.new }
         ensures same { IsSame self.old self.new }
         ensures done { (d : Done) → IsPut d out.old self.old
@@ -424,9 +469,9 @@ impl<'p, F: Fronts> StageShard<'p, F> {
 
     /// Makes the stage key a hole that was filled first, if one is filled.
     fn open_oldest(&mut self, alloc: Global, out: &mut StageOutbox<F>) -> Result<(), AllocError>
-        requires whole { IsShard self.old }
+        requires whole { IsWhole self.old }
         requires edges { AreEdges self.old.plan out.old }
-        ensures whole { OnOk result (IsShard self.new) }
+        ensures whole { OnOk result (IsWhole self.new) }
         ensures edges { AreEdges self.old.plan out.new }
         ensures others { self.new ≡ record self.old { rows = self.new.rows } }
         ensures done { (d : Done) → IsPut d out.old self.old → OnOk result (IsPut
@@ -449,7 +494,7 @@ impl<'p, F: Fronts> StageShard<'p, F> {
         key: &Value,
         out: &mut StageOutbox<F>,
     ) -> Result<(), AllocError>
-        requires whole { IsShard self.now }
+        requires whole { IsWhole self.now }
         requires edges { AreEdges self.now.plan out.old }
         ensures edges { AreEdges self.now.plan out.new }
         ensures requests { out.new.requests ≡ out.old.requests }
@@ -495,6 +540,13 @@ fn ask_sources<F: Fronts>(
         out.ask(source, request)?;
     }
     Ok(())
+}
+
+/// Whether the packet brings a piece or a marker, and so no entry.
+fn brings_no_entry<F: Fronts>(packet: &BasePacket<F>) -> bool
+    ensures { result ≡ has_no_entry packet.now }
+{
+    packet.piece().is_some() || packet.marker().is_some()
 }
 
 /// Whether a piece of the source by this tag is one of the right side.

@@ -11,7 +11,7 @@ pub front-held-requires : goal.front-held-requires
 front-held-requires g c =
     let x = c.self.inside.shard in
     let whole = c.self.invariant (running_whole c.self.inside.mode (subst (λ (d : Domain). d.mode ≡ _) (sym c.self.view_is) c.requires.running)) in
-    let small = subst (λ n. c.args.source < n) (sym (line_size x.plan (sources x.plan) x.line whole.of)) (subst (λ (d : Domain). c.args.source < length (sources d.plan)) (sym c.self.view_is) c.requires.meets.0.source) in
+    let small = subst (λ n. c.args.source < n) (sym (line_size x.plan (sources x.plan) x.line whole.whole.of)) (subst (λ (d : Domain). c.args.source < length (sources d.plan)) (sym c.self.view_is) c.requires.meets.0.source) in
     subst (λ l. c.args.source < length l) (sym c.line.ensures) small
 
 pub meet-requires : goal.meet-requires

@@ -7,7 +7,7 @@ use Rattle.packet.specs.Readers.{view_of}
 use Rattle.protocol.specs.Stages.{knows}
 use Rattle.right_rows.specs.Rights.{keys_in}
 use Rattle.stage_steps.specs.Outboxes.{AreEdges}
-use Rattle.stage_steps.specs.Shards.{IsPut, IsShard, Shard}
+use Rattle.stage_steps.specs.Shards.{IsPut, IsWhole, Shard}
 use Rattle.stage_steps.proofs.Gives.{all_known, later_whole, put_answer, put_later}
 use Rattle.stage_steps.proofs.shard.StageShard.answer.Goals as goal
 
@@ -27,7 +27,7 @@ returns-then-knows_all-clause-done g c d put =
 pub returns-clause-whole : goal.returns-clause-whole
 returns-clause-whole g c =
     let x : Shard = record { plan = c.self.inside.plan.now; shard = c.self.inside.shard; line = c.self.inside.line; rows = c.self.inside.rows; pending = c.self.inside.pending.items; marks = c.self.inside.marks } in
-    later_whole x c.args.ask c.push.new.self.items (subst IsShard (sym c.self.view_is) c.requires.whole) (subst (λ (x : Shard). view_of c.args.ask.tag < length x.plan.views) (sym c.self.view_is) c.requires.there) c.in_ok-push.ensures.items
+    later_whole x c.args.ask c.push.new.self.items (subst IsWhole (sym c.self.view_is) c.requires.whole) (subst (λ (x : Shard). view_of c.args.ask.tag < length x.plan.views) (sym c.self.view_is) c.requires.there) c.in_ok-push.ensures.items
 
 pub returns-clause-done : goal.returns-clause-done
 returns-clause-done g c d put =

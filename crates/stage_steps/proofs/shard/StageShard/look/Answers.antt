@@ -6,18 +6,18 @@ use Rattle.packet.specs.Messages.{Ask}
 use Rattle.packet.specs.Readers.{view_of}
 use Rattle.protocol.specs.Stages.{Done}
 use Rattle.stage_steps.specs.Outboxes.{AreEdges}
-use Rattle.stage_steps.specs.Shards.{IsPut, IsShard, Shard}
+use Rattle.stage_steps.specs.Shards.{IsPut, IsWhole, Shard}
 use Rattle.stage_steps.proofs.Looked.{looked, looked_more, none_waiting, put_looked, put_waiting_none, waiting_none}
 use Rattle.stage_steps.proofs.shard.StageShard.look.Goals as goal
 
 pub loop-ask-init : goal.loop-ask-init
 loop-ask-init g c =
     let x : Shard = record { plan = c.self.inside.plan.now; shard = c.self.inside.shard; line = c.self.inside.line; rows = c.self.inside.rows; pending = c.self.inside.pending.items; marks = c.self.inside.marks } in
-    let whole = subst IsShard (sym c.self.view_is) c.requires.whole in
+    let whole = subst IsWhole (sym c.self.view_is) c.requires.whole in
     let none : c.replace-pending.new.dest.items ≡ [] = ap (λ v. v.items) c.replace-pending.ensures.after ∙ c.new.ensures.items in
     let all : c.into_iter-ask-iterator.result.rest.items ≡ c.self.inside.pending.items = c.into_iter-ask-iterator.ensures.into_iter_gives.0 ∙ ap (λ v. v.items) c.replace-pending.ensures.value in
     record {
-      whole = subst (λ as_. IsShard (record x { pending = as_ })) (sym none) (none_waiting x whole);
+      whole = subst (λ as_. IsWhole (record x { pending = as_ })) (sym none) (none_waiting x whole);
       edges = c.requires.edges;
       same = record { plan = ap (λ (x : Shard). x.plan) c.self.view_is; shard = ap (λ (x : Shard). x.shard) c.self.view_is };
       rest = subst (λ as_. Each (λ (a : Ask). view_of a.tag < length c.args.self.now.plan.views) as_) (sym (all ∙ ap (λ (x : Shard). x.pending) c.self.view_is)) c.requires.whole.pending;

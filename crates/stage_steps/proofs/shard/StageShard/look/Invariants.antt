@@ -4,13 +4,13 @@ use Rattle.packet.specs.Messages.{Ask}
 use Rattle.packet.specs.Readers.{view_of}
 use Rattle.protocol.specs.Stages.{Done}
 use Rattle.stage_steps.specs.Outboxes.{AreEdges}
-use Rattle.stage_steps.specs.Shards.{IsPut, IsSame, IsShard}
+use Rattle.stage_steps.specs.Shards.{IsPut, IsSame, IsWhole}
 use Rattle.stage_steps.proofs.Looked.{looked, waiting_none}
 use Rattle.stage_steps.proofs.shard.StageShard.look.Given as goal
 
 abbrev pub invariant-loop-ask : goal.invariant-loop-ask
 invariant-loop-ask g l = record {
-  whole : IsShard l.self;
+  whole : IsWhole l.self;
   edges : AreEdges l.fn.self.plan l.out;
   same : IsSame l.fn.self l.self;
   rest : Each (λ (a : Ask). view_of a.tag < length l.fn.self.plan.views) l.ask-iterator.rest.items;

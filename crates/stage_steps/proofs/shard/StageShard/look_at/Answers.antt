@@ -8,7 +8,7 @@ use Rattle.protocol.specs.StageSteps.{answered, asks, look}
 use Rattle.right_rows.specs.Rights.{keys_in}
 use Rattle.stage_sides.specs.Held.{stage_keys_of}
 use Rattle.stage_steps.specs.Outboxes.{AreEdges}
-use Rattle.stage_steps.specs.Shards.{IsPut, IsShard, Shard, given, stage_of}
+use Rattle.stage_steps.specs.Shards.{IsPut, IsWhole, Shard, given, stage_of}
 use Rattle.stage_steps.proofs.Puts.{after}
 use Rattle.stage_steps.proofs.Looked.{behind_is, put_look}
 use Rattle.stage_steps.proofs.Untold.{knows_is}
@@ -18,7 +18,7 @@ use Rattle.stage_steps.proofs.shard.StageShard.look_at.Goals as goal
 pub give-requires-clause-known : goal.give-requires-clause-known
 give-requires-clause-known g c =
     let x : Shard = record { plan = c.self.inside.plan.now; shard = c.self.inside.shard; line = c.self.inside.line; rows = c.self.inside.rows; pending = c.self.inside.pending.items; marks = c.self.inside.marks } in
-    let own = behind_is x c.view_of-view.result (view_of c.args.ask.tag) (datum_of c.key.result.now) c.args.ask.key (subst IsShard (sym c.self.view_is) c.requires.whole) c.keeps_order.ensures.lefts (c.view_of-view.ensures ∙ ap view_of c.tag.ensures) c.key.ensures in
+    let own = behind_is x c.view_of-view.result (view_of c.args.ask.tag) (datum_of c.key.result.now) c.args.ask.key (subst IsWhole (sym c.self.view_is) c.requires.whole) c.keeps_order.ensures.lefts (c.view_of-view.ensures ∙ ap view_of c.tag.ensures) c.key.ensures in
     let keys = stage_keys_of x.rows c.view_of-view.result (datum_of c.key.result.now) in
     let known : list_all (knows (keys_in x.rows.right)) keys ≡ true = (λ i. list_all (λ k. sym (c.keeps_order.ensures.known k ∙ knows_is (keys_in x.rows.right) k) i) keys) ∙ (sym c.knows_behind.ensures ∙ c.if-knows_behind.true) in
     subst (λ (y : Shard). list_all (knows (keys_in y.rows.right)) (behind (stage_of y) (view_of c.args.ask.tag) c.args.ask.key) ≡ true) c.self.view_is (subst (λ ks. list_all (knows (keys_in x.rows.right)) ks ≡ true) own known)
@@ -26,7 +26,7 @@ give-requires-clause-known g c =
 pub returns-then-knows_behind-clause-done : goal.returns-then-knows_behind-clause-done
 returns-then-knows_behind-clause-done g c d put =
     let x : Shard = record { plan = c.self.inside.plan.now; shard = c.self.inside.shard; line = c.self.inside.line; rows = c.self.inside.rows; pending = c.self.inside.pending.items; marks = c.self.inside.marks } in
-    let own = behind_is x c.view_of-view.result (view_of c.args.ask.tag) (datum_of c.key.result.now) c.args.ask.key (subst IsShard (sym c.self.view_is) c.requires.whole) c.keeps_order.ensures.lefts (c.view_of-view.ensures ∙ ap view_of c.tag.ensures) c.key.ensures in
+    let own = behind_is x c.view_of-view.result (view_of c.args.ask.tag) (datum_of c.key.result.now) c.args.ask.key (subst IsWhole (sym c.self.view_is) c.requires.whole) c.keeps_order.ensures.lefts (c.view_of-view.ensures ∙ ap view_of c.tag.ensures) c.key.ensures in
     let keys = stage_keys_of x.rows c.view_of-view.result (datum_of c.key.result.now) in
     let known : list_all (knows (keys_in x.rows.right)) keys ≡ true = (λ i. list_all (λ k. sym (c.keeps_order.ensures.known k ∙ knows_is (keys_in x.rows.right) k) i) keys) ∙ (sym c.knows_behind.ensures ∙ c.if-knows_behind.true) in
     let shut = all_shut (keys_in x.rows.right) keys known in
@@ -39,7 +39,7 @@ returns-then-knows_behind-clause-done g c d put =
 pub returns-then-has_begun_behind-clause-done : goal.returns-then-has_begun_behind-clause-done
 returns-then-has_begun_behind-clause-done g c d put =
     let x : Shard = record { plan = c.self.inside.plan.now; shard = c.self.inside.shard; line = c.self.inside.line; rows = c.self.inside.rows; pending = c.self.inside.pending.items; marks = c.self.inside.marks } in
-    let own = behind_is x c.view_of-view.result (view_of c.args.ask.tag) (datum_of c.key-2.result.now) c.args.ask.key (subst IsShard (sym c.self.view_is) c.requires.whole) c.keeps_order.ensures.lefts (c.view_of-view.ensures ∙ ap view_of c.tag.ensures) c.key-2.ensures in
+    let own = behind_is x c.view_of-view.result (view_of c.args.ask.tag) (datum_of c.key-2.result.now) c.args.ask.key (subst IsWhole (sym c.self.view_is) c.requires.whole) c.keeps_order.ensures.lefts (c.view_of-view.ensures ∙ ap view_of c.tag.ensures) c.key-2.ensures in
     let same = c.key.ensures ∙ sym c.key-2.ensures in
     let keys = stage_keys_of x.rows c.view_of-view.result (datum_of c.key-2.result.now) in
     let lacks : list_all (knows (keys_in x.rows.right)) keys ≡ false =
@@ -49,13 +49,13 @@ returns-then-has_begun_behind-clause-done g c d put =
 pub answer-requires-clause-needed : goal.answer-requires-clause-needed
 answer-requires-clause-needed g c =
     let x : Shard = record { plan = c.self.inside.plan.now; shard = c.self.inside.shard; line = c.self.inside.line; rows = c.self.inside.rows; pending = c.self.inside.pending.items; marks = c.self.inside.marks } in
-    let own = behind_is x c.view_of-view.result (view_of c.args.ask.tag) (datum_of c.key-3.result.now) c.args.ask.key (subst IsShard (sym c.self.view_is) c.requires.whole) c.keeps_order.ensures.lefts (c.view_of-view.ensures ∙ ap view_of c.tag.ensures) c.key-3.ensures in
+    let own = behind_is x c.view_of-view.result (view_of c.args.ask.tag) (datum_of c.key-3.result.now) c.args.ask.key (subst IsWhole (sym c.self.view_is) c.requires.whole) c.keeps_order.ensures.lefts (c.view_of-view.ensures ∙ ap view_of c.tag.ensures) c.key-3.ensures in
     ap (map datum_of) c.deref-2.ensures.value ∙ (c.in_ok-needed.ensures ∙ (own ∙ (ap (λ (x : Shard). behind (stage_of x) (view_of c.args.ask.tag) c.args.ask.key) c.self.view_is ∙ sym (ap (λ (x : Shard). behind (stage_of x) (view_of c.args.ask.tag) c.args.ask.key) c.in_ok-ask_for.ensures.others))))
 
 pub returns-clause-done : goal.returns-clause-done
 returns-clause-done g c d put =
     let x : Shard = record { plan = c.self.inside.plan.now; shard = c.self.inside.shard; line = c.self.inside.line; rows = c.self.inside.rows; pending = c.self.inside.pending.items; marks = c.self.inside.marks } in
-    let own = behind_is x c.view_of-view.result (view_of c.args.ask.tag) (datum_of c.key-3.result.now) c.args.ask.key (subst IsShard (sym c.self.view_is) c.requires.whole) c.keeps_order.ensures.lefts (c.view_of-view.ensures ∙ ap view_of c.tag.ensures) c.key-3.ensures in
+    let own = behind_is x c.view_of-view.result (view_of c.args.ask.tag) (datum_of c.key-3.result.now) c.args.ask.key (subst IsWhole (sym c.self.view_is) c.requires.whole) c.keeps_order.ensures.lefts (c.view_of-view.ensures ∙ ap view_of c.tag.ensures) c.key-3.ensures in
     let needed = c.in_ok-needed.ensures ∙ (own ∙ ap (λ (x : Shard). behind (stage_of x) (view_of c.args.ask.tag) c.args.ask.key) c.self.view_is) in
     let keys = map datum_of c.in_ok-needed.needed.items in
     let e = after d (asks d.stage keys) in

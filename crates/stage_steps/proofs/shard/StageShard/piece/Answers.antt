@@ -10,7 +10,7 @@ use Rattle.packet.specs.Lines.{AreOf, entries_of, plan_of}
 use Rattle.packet.specs.Truth.{IsTrueStage}
 use Rattle.protocol.specs.Stages.{behind, knows}
 use Rattle.stage_sides.specs.Held.{output_over}
-use Rattle.stage_steps.specs.Shards.{IsShard, Shard, stage_of}
+use Rattle.stage_steps.specs.Shards.{IsWhole, Shard, stage_of}
 use Rattle.stage_steps.specs.Told.{answer_of}
 use Rattle.stage_steps.proofs.Lines.{plan_is}
 use Rattle.stage_steps.proofs.Parts.{part_here, piece_is, same_answer}
@@ -20,13 +20,13 @@ use Rattle.stage_steps.proofs.shard.StageShard.piece.Goals as goal
 pub new-requires-4-clause-of : goal.new-requires-4-clause-of
 new-requires-4-clause-of g c =
     let x : Shard = record { plan = c.self.inside.plan.now; shard = c.self.inside.shard; line = c.self.inside.line; rows = c.self.inside.rows; pending = c.self.inside.pending.items; marks = c.self.inside.marks } in
-    let whole = subst IsShard (sym c.self.view_is) c.requires.whole in
+    let whole = subst IsWhole (sym c.self.view_is) c.requires.whole in
     subst (λ l. AreOf (plan_of l) l) (sym c.in_ok-line.ensures) (subst (λ p. AreOf p x.line) (sym (plan_is x.plan x.line c.keeps_profile.ensures whole.of)) whole.of)
 
 pub new-requires-4-clause-truth : goal.new-requires-4-clause-truth
 new-requires-4-clause-truth g c =
     let x : Shard = record { plan = c.self.inside.plan.now; shard = c.self.inside.shard; line = c.self.inside.line; rows = c.self.inside.rows; pending = c.self.inside.pending.items; marks = c.self.inside.marks } in
-    let whole = subst IsShard (sym c.self.view_is) c.requires.whole in
+    let whole = subst IsWhole (sym c.self.view_is) c.requires.whole in
     let plan = plan_is x.plan x.line c.keeps_profile.ensures whole.of in
     let k = c.args.ask.key in
     let all = subst (λ (x : Shard). list_all (knows (stage_of x).right) (behind (stage_of x) c.args.reader.view k) ≡ true) (sym c.self.view_is) c.requires.known in
@@ -42,7 +42,7 @@ new-requires-4-clause-truth g c =
 pub returns : goal.returns
 returns g c =
     let x : Shard = record { plan = c.self.inside.plan.now; shard = c.self.inside.shard; line = c.self.inside.line; rows = c.self.inside.rows; pending = c.self.inside.pending.items; marks = c.self.inside.marks } in
-    let whole = subst IsShard (sym c.self.view_is) c.requires.whole in
+    let whole = subst IsWhole (sym c.self.view_is) c.requires.whole in
     let plan = plan_is x.plan x.line c.keeps_profile.ensures whole.of in
     let k = c.args.ask.key in
     let all = subst (λ (x : Shard). list_all (knows (stage_of x).right) (behind (stage_of x) c.args.reader.view k) ≡ true) (sym c.self.view_is) c.requires.known in

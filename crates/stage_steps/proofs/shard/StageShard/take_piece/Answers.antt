@@ -15,14 +15,14 @@ use Rattle.row.proofs.BagLemmas.{not_true}
 use Rattle.stage_sides.specs.Kept.{kept_rows}
 use Rattle.stage_steps.proofs.Puts.{after}
 use Rattle.stage_steps.specs.Outboxes.{AreEdges}
-use Rattle.stage_steps.specs.Shards.{IsFrom, IsPut, IsShard, Shard}
+use Rattle.stage_steps.specs.Shards.{IsFrom, IsPut, IsWhole, Shard}
 use Rattle.stage_steps.proofs.Fed.{fed_keyed, fed_whole, put_fed, put_unfed}
 use Rattle.stage_steps.proofs.shard.StageShard.take_piece.Goals as goal
 
 pub give-requires : goal.give-requires
 give-requires g c =
     let x : Shard = record { plan = c.self.inside.plan.now; shard = c.self.inside.shard; line = c.self.inside.line; rows = c.self.inside.rows; pending = c.self.inside.pending.items; marks = c.self.inside.marks } in
-    let whole = subst IsShard (sym c.self.view_is) c.requires.whole in
+    let whole = subst IsWhole (sym c.self.view_is) c.requires.whole in
     let from = subst (λ (x : Shard). IsFrom x.plan x.shard c.args.source c.args.packet) (sym c.self.view_is) c.requires.from in
     let at = subst (λ (x : Shard). slice_get (entries_of x.line) c.args.source ≡ Some c.args.packet.from) (sym c.self.view_is) c.requires.next in
     let some : c.args.packet.piece ≡ Some c.in-Some.piece = sym c.into_parts-front.ensures.piece ∙ c.in-Some.is in
@@ -35,7 +35,7 @@ give-requires g c =
 pub returns-clause-whole : goal.returns-clause-whole
 returns-clause-whole g c =
     let x : Shard = record { plan = c.self.inside.plan.now; shard = c.self.inside.shard; line = c.self.inside.line; rows = c.self.inside.rows; pending = c.self.inside.pending.items; marks = c.self.inside.marks } in
-    let whole = subst IsShard (sym c.self.view_is) c.requires.whole in
+    let whole = subst IsWhole (sym c.self.view_is) c.requires.whole in
     let from = subst (λ (x : Shard). IsFrom x.plan x.shard c.args.source c.args.packet) (sym c.self.view_is) c.requires.from in
     let at = subst (λ (x : Shard). slice_get (entries_of x.line) c.args.source ≡ Some c.args.packet.from) (sym c.self.view_is) c.requires.next in
     let some : c.args.packet.piece ≡ Some c.in-Some.piece = sym c.into_parts-front.ensures.piece ∙ c.in-Some.is in
@@ -53,7 +53,7 @@ returns-clause-whole g c =
 pub returns-clause-done : goal.returns-clause-done
 returns-clause-done g c d out piece is edges put =
     let x : Shard = record { plan = c.self.inside.plan.now; shard = c.self.inside.shard; line = c.self.inside.line; rows = c.self.inside.rows; pending = c.self.inside.pending.items; marks = c.self.inside.marks } in
-    let whole = subst IsShard (sym c.self.view_is) c.requires.whole in
+    let whole = subst IsWhole (sym c.self.view_is) c.requires.whole in
     let from = subst (λ (x : Shard). IsFrom x.plan x.shard c.args.source c.args.packet) (sym c.self.view_is) c.requires.from in
     let at = subst (λ (x : Shard). slice_get (entries_of x.line) c.args.source ≡ Some c.args.packet.from) (sym c.self.view_is) c.requires.next in
     let some : c.args.packet.piece ≡ Some c.in-Some.piece = sym c.into_parts-front.ensures.piece ∙ c.in-Some.is in

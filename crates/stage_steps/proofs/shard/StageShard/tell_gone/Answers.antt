@@ -6,7 +6,7 @@ use Rattle.packet.specs.Outboxes.{packets_on}
 use Rattle.packet.specs.Readers.{readers}
 use Rattle.protocol.specs.StageSteps.{append_each}
 use Rattle.stage_sides.specs.Held.{IsSetOf}
-use Rattle.stage_steps.specs.Shards.{IsShard, Shard, gone_names, gone_to}
+use Rattle.stage_steps.specs.Shards.{IsWhole, Shard, gone_names, gone_to}
 use Rattle.stage_steps.specs.Told.{names_in}
 use Rattle.stage_steps.proofs.Names.{gone_all, gone_true, names_all, names_more}
 use Rattle.stage_steps.proofs.shard.StageShard.tell_gone.Goals as goal
@@ -24,7 +24,7 @@ packets-requires-clause-truth g c r lt =
     let k = datum_of c.args.key.now in
     let all : length c.args.self.now.plan.views ≤ c.loop-view.view = subst (λ (x : Shard). length x.plan.views ≤ c.loop-view.view) c.self.view_is (omega (arith, c.loop-view-test.false, c.views-view-end.ensures)) in
     let is = names_all c.args.self.now k c.loop-view.view c.loop-view.names.items all c.loop-view.invariant in
-    gone_true _ k (names_in c.deref.result.now) (subst IsShard (sym c.self.view_is) c.requires.whole) (ap names_in c.deref.ensures.value ∙ (is ∙ ap (λ (x : Shard). gone_names x k) (sym c.self.view_is))) r
+    gone_true _ k (names_in c.deref.result.now) (subst IsWhole (sym c.self.view_is) c.requires.whole) (ap names_in c.deref.ensures.value ∙ (is ∙ ap (λ (x : Shard). gone_names x k) (sym c.self.view_is))) r
 
 pub returns-clause-told : goal.returns-clause-told
 returns-clause-told g c =

@@ -5,7 +5,7 @@ use Rattle.packet.specs.Lines.{entries_of}
 use Rattle.packet.specs.Outboxes.{packets_on}
 use Rattle.packet.specs.Readers.{readers}
 use Rattle.protocol.specs.StageSteps.{append_each}
-use Rattle.stage_steps.specs.Shards.{IsShard, Shard}
+use Rattle.stage_steps.specs.Shards.{IsWhole, Shard}
 use Rattle.stage_steps.specs.Told.{perhaps, told}
 use Rattle.stage_steps.proofs.Marked.{each_told, marker_true}
 use Rattle.stage_steps.proofs.shard.StageShard.tell_marker.Goals as goal
@@ -13,7 +13,7 @@ use Rattle.stage_steps.proofs.shard.StageShard.tell_marker.Goals as goal
 pub packets-requires-clause-truth : goal.packets-requires-clause-truth
 packets-requires-clause-truth g c r there =
     let x : Shard = record { plan = c.self.inside.plan.now; shard = c.self.inside.shard; line = c.self.inside.line; rows = c.self.inside.rows; pending = c.self.inside.pending.items; marks = c.self.inside.marks } in
-    let whole = subst IsShard (sym c.self.view_is) c.requires.whole in
+    let whole = subst IsWhole (sym c.self.view_is) c.requires.whole in
     marker_true x.plan x.shard (entries_of x.line) (mark_of c.args.marker) whole.fronts r
 
 pub returns-clause-told : goal.returns-clause-told
