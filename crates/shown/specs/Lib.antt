@@ -1,4 +1,6 @@
 pub mod Moves
+pub mod Counted
+pub mod KeySteps
 pub mod Snapshots
 pub mod Sights
 pub mod Looks

@@ -1,8 +1,10 @@
 //! The rows of a shown key.
-ghost use Rattle.std.specs.Prelude.{◌≡◌, ◌==◌, length, IfOk, OnOk, OnErr};
+ghost use Rattle.std.specs.Prelude.{◌≡◌, ◌==◌, length, IfOk, IfErr, OnOk, OnErr};
 ghost use Rattle.std.specs.Arc.{arc_value};
 ghost use Rattle.row.specs.{Bags.IsAscending, BagChanges.with_records, Cells.row_cmp};
+ghost use Rattle.shown.specs.Counted.{rows_of};
 
+use core::mem::replace_with;
 use row::bag::Bag;
 use row::record::Record;
 use row::row::Row;
@@ -144,88 +146,180 @@ impl SharedRows {
     }
 }
 
-/// The rows of a key for readers of the other stripes than the first.
-#[derive(Drop)]
-struct Others {
+/// The same rows with a count for each of four stripes.
+struct Stripes {
+    first: SharedRows,
     second: SharedRows,
     third: SharedRows,
     fourth: SharedRows,
 }
 
-/// The rows of a shown key. Striped, they have a count for each of four stripes until they change:
-/// a copy that a reader takes is counted by its stripe, so readers of two stripes do not wait for
-/// each other at a count. (As reference counts of a kernel that each processor has for itself.) A
-/// change leaves one count, with which the rows are changed where they are.
+// What holds one drops it by this call, and need not know its parts.
+impl Drop for Stripes {
+    fn drop(self) {
+        let Stripes {
+            first: _,
+            second: _,
+            third: _,
+            fourth: _,
+        } = self;
+    }
+}
+
+impl Model for Stripes {
+    ghost use Rattle.std.specs.Prelude.{◌≡◌, List};
+    ghost use Rattle.row.specs.Cells.{Datum};
+
+    ghost Value = { List (List Datum) };
+
+    ghost view = { λ s. s.first };
+
+    ghost invariant = { λ s. (s.second ≡ s.first) × (s.third ≡ s.first) × (s.fourth ≡ s.first) };
+}
+
+impl Stripes {
+    // The rows of this bag, with four counts. Errors: memory only.
+    fn new(alloc: Global, bag: Bag) -> Result<Stripes, AllocError>
+        ensures { IfOk result (λ s. s ≡ bag) }
+    {
+        let bag = shared(alloc, bag)?;
+        Ok(Stripes {
+            first: SharedRows::over(alloc, Arc::try_clone(&bag)?)?,
+            second: SharedRows::over(alloc, Arc::try_clone(&bag)?)?,
+            third: SharedRows::over(alloc, Arc::try_clone(&bag)?)?,
+            fourth: SharedRows::over(alloc, bag)?,
+        })
+    }
+
+    // The rows, with the count of this stripe.
+    fn of(&self, stripe: usize) -> &SharedRows
+        ensures { result.now ≡ self.now }
+    {
+        match stripe % STRIPES {
+            1 => &self.second,
+            2 => &self.third,
+            3 => &self.fourth,
+            _ => &self.first,
+        }
+    }
+}
+
+/// Rows with one count, or with a count for each stripe.
+#[derive(Drop)]
+enum Counts {
+    One(SharedRows),
+    Four(Arc<Stripes>),
+}
+
+impl Counts {
+    // The same rows with one count. Memory is taken only where the first count is full; where it is
+    // refused, all comes back.
+    fn into_one(self, alloc: Global) -> Result<SharedRows, Counts>
+        ensures one { IfOk result (λ r. r ≡ rows_of self) }
+        ensures err { IfErr result (λ c. c ≡ self) }
+    {
+        match self {
+            Counts::One(rows) => Ok(rows),
+            Counts::Four(stripes) => match stripes.first.try_clone(alloc) {
+                Ok(rows) => Ok(rows),
+                Err(_) => Err(Counts::Four(stripes)),
+            },
+        }
+    }
+
+    // With `Ok` the rows after the records, with one count, else the same rows. Errors: memory only.
+    fn applied(self, alloc: Global, records: &[Record]) -> (Counts, Result<(), AllocError>)
+        ensures applied { OnOk result.1 (rows_of result.0
+            ≡ with_records (rows_of self) records.now) }
+        ensures err { OnErr result.1 (rows_of result.0 ≡ rows_of self) }
+    {
+        match self.into_one(alloc) {
+            Ok(mut rows) => {
+                let applied = rows.apply(alloc, records);
+                (Counts::One(rows), applied)
+            }
+            Err(counts) => (counts, Err(AllocError)),
+        }
+    }
+}
+
+/// The rows of a shown key, in memory that its copies share until one of them changes. Striped,
+/// they have a count for each of four stripes until then: a copy that a reader takes is counted by
+/// its stripe, so readers of two stripes do not wait for each other at a count. (As reference counts
+/// of a kernel that each processor has for itself.) A change leaves one count.
 pub struct KeyRows {
-    first: SharedRows,
-    others: Option<Others>,
+    counts: Counts,
 }
 
 // What holds one drops it by this call, and need not know its parts.
 impl Drop for KeyRows {
     fn drop(self) {
-        let KeyRows {
-            first: _,
-            others: _,
-        } = self;
+        let KeyRows { counts: _ } = self;
     }
 }
 
 impl Model for KeyRows {
-    ghost use Rattle.std.specs.Prelude.{◌≡◌, List, IfSome};
+    ghost use Rattle.std.specs.Prelude.{List};
     ghost use Rattle.row.specs.Cells.{Datum};
+    ghost use Rattle.shown.specs.Counted.{rows_of};
 
     ghost Value = { List (List Datum) };
 
-    ghost view = { λ r. r.first };
-
-    ghost invariant = { λ r. IfSome r.others (λ o. (o.second ≡ r.first) × (o.third ≡ r.first)
-        × (o.fourth ≡ r.first)) };
+    ghost view = { λ r. rows_of r.counts };
 }
 
 impl KeyRows {
-    /// The rows of this bag, with one count or, striped, with four. Errors: memory only.
+    /// The rows of this bag, which nobody shares yet, with one count or, striped, with four. No row
+    /// is copied. Errors: memory only.
     pub fn new(alloc: Global, bag: Bag, is_striped: bool) -> Result<KeyRows, AllocError>
         ensures { IfOk result (λ r. r ≡ bag) }
     {
-        let bag = shared(alloc, bag)?;
-        let others = if is_striped {
-            Some(Others {
-                second: SharedRows::over(alloc, Arc::try_clone(&bag)?)?,
-                third: SharedRows::over(alloc, Arc::try_clone(&bag)?)?,
-                fourth: SharedRows::over(alloc, Arc::try_clone(&bag)?)?,
-            })
+        let counts = if is_striped {
+            Counts::Four(Arc::new(alloc, Stripes::new(alloc, bag)?)?)
         } else {
-            None
+            Counts::One(SharedRows::new(alloc, bag)?)
         };
-        Ok(KeyRows {
-            first: SharedRows::over(alloc, bag)?,
-            others,
-        })
+        Ok(KeyRows { counts })
     }
 
     /// The rows, for who takes a copy of them as a reader of this stripe. Constant time.
     pub fn stripe(&self, stripe: usize) -> &SharedRows
         ensures { result.now ≡ self.now }
     {
-        match (&self.others, stripe % STRIPES) {
-            (Some(others), 1) => &others.second,
-            (Some(others), 2) => &others.third,
-            (Some(others), 3) => &others.fourth,
-            _ => &self.first,
+        match &self.counts {
+            Counts::One(rows) => rows,
+            Counts::Four(stripes) => stripes.of(stripe),
         }
     }
 
+    /// The same rows, in the same memory and with the same counts; where these have as many copies
+    /// as can be counted, with one count, as `SharedRows::try_clone` gives them. Errors: memory
+    /// only. Constant time: a step on a count, which of striped rows is none that readers step on.
+    pub fn try_clone(&self, alloc: Global) -> Result<KeyRows, AllocError>
+        ensures { IfOk result (λ r. r ≡ self.now) }
+    {
+        let counts = match &self.counts {
+            Counts::One(rows) => Counts::One(rows.try_clone(alloc)?),
+            Counts::Four(stripes) => match Arc::try_clone(stripes) {
+                Ok(stripes) => Counts::Four(stripes),
+                Err(_) => Counts::One(stripes.first.try_clone(alloc)?),
+            },
+        };
+        Ok(KeyRows { counts })
+    }
+
     /// Applies the records as one change, as `Bag::apply` does; who has a copy keeps what it has.
-    /// From then on, also after an error, there is one count. Errors: memory only; then the rows
-    /// are as they were. Cost: that of `Bag::apply`, and where a copy shares the rows, that of a
-    /// copy of the bag.
+    /// From then on there is one count. Errors: memory only; then the rows are as they were. Cost:
+    /// that of `Bag::apply`, and where a copy shares the rows, that of a copy of the bag.
     pub fn apply(&mut self, alloc: Global, records: &[Record]) -> Result<(), AllocError>
         ensures applied { OnOk result (self.new ≡ with_records self.old records.now) }
         ensures err { OnErr result (self.new ≡ self.old) }
     {
-        self.others = None;
-        self.first.apply(alloc, records)
+        replace_with(
+            &mut self.counts,
+            (alloc, records),
+            |counts, (alloc, records)| counts.applied(alloc, records),
+        )
     }
 }
 

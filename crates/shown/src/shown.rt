@@ -6,7 +6,7 @@ ghost use Rattle.packet.specs.Lines.{entries_of, lengths_of};
 ghost use Rattle.row.specs.Cells.{datum_of};
 ghost use Rattle.shown.specs.Snapshots.{first_of, shown_at, with_change};
 
-use crate::delta::{Delta, Moved};
+use crate::delta::{Delta, KeyStep, Moved};
 use crate::entries::Entries;
 use crate::rows::KeyRows;
 use crate::rule::Shot;
@@ -18,7 +18,6 @@ use plan::plan::Plan;
 use row::value::Value;
 use std::alloc::{AllocError, Global};
 use std::marker::Model;
-use view_domain::shown::KeyChange;
 
 /// The filled keys of one shard of a view with their rows, over one cut.
 #[derive(Drop)]
@@ -29,7 +28,6 @@ pub struct Shown<J: Naming> {
     rows: Entries,
     cut: Cut<J>,
     asked: u64,
-    is_striped: bool,
 }
 
 impl<J: Naming> Model for Shown<J> {
@@ -49,15 +47,13 @@ impl<J: Naming> Model for Shown<J> {
 }
 
 impl<J: Naming> Shown<J> {
-    /// No key, over no entries. The rows of keys that are filled are striped, or are not (`KeyRows`).
-    /// Errors: memory only.
+    /// No key, over no entries. Errors: memory only.
     pub fn new(
         alloc: Global,
         plan: &Plan,
         view: usize,
         shard: usize,
         part: &Part<J>,
-        is_striped: bool,
     ) -> Result<Shown<J>, AllocError>
         requires plan { plan.now ≡ J.plan }
         ensures { IfOk result (λ s. s ≡ first_of J.plan view shard) }
@@ -69,7 +65,6 @@ impl<J: Naming> Shown<J> {
             rows: Entries::new(alloc)?,
             cut: Cut::zeros(alloc, plan, part)?,
             asked: 0,
-            is_striped,
         })
     }
 
@@ -96,26 +91,13 @@ impl<J: Naming> Shown<J> {
     }
 
     // Changes what is shown of a key. Where memory is refused, all stays.
-    fn change(&mut self, change: &KeyChange) -> Result<(), AllocError>
+    fn change(&mut self, step: &KeyStep) -> Result<(), AllocError>
         ensures changed { OnOk result (self.new ≡ record self.old {
-          rows = with_change self.old.rows change.now;
+          rows = with_change self.old.rows step.now;
         }) }
         ensures err { OnErr result (self.new ≡ self.old) }
     {
-        match change {
-            KeyChange::Fills { key, rows } => {
-                let rows = KeyRows::new(self.alloc, rows.try_clone(self.alloc)?, self.is_striped)?;
-                let key = key.try_clone(self.alloc)?;
-                self.rows.put(key, rows)
-            }
-            KeyChange::Turns { key, records } => {
-                self.rows.turn(self.alloc, key, records.records())
-            }
-            KeyChange::Goes { key } => {
-                self.rows.remove(key);
-                Ok(())
-            }
-        }
+        step.apply(self.alloc, &mut self.rows)
     }
 
     // Puts the new line of a stage shard in the place of its old one.
@@ -145,7 +127,7 @@ impl<J: Naming> Absorb<Delta<J>> for Shown<J> {
 
     fn absorb_first(&mut self, delta: &Delta<J>, _other: &Shown<J>) -> Result<(), AllocError> {
         match delta {
-            Delta::Key(change) => self.change(change),
+            Delta::Key(step) => self.change(step),
             Delta::Moves(moved) => {
                 self.advance(moved);
                 Ok(())

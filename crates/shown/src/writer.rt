@@ -4,7 +4,7 @@ ghost use Rattle.packet.specs.Lines.{AreOf};
 ghost use Rattle.shown.specs.{Boards.pending, Boards.shown, Boards.state, Boards.state_by, Sights.ahead, Snapshots.IsLater, Snapshots.IsTrue, Snapshots.after, Snapshots.applied, Snapshots.first_of, Snapshots.lengths_with, Snapshots.with_change};
 ghost use Rattle.view_domain.specs.Outboxes.{put_line};
 
-use crate::delta::{Delta, Moved};
+use crate::delta::{Delta, KeyStep, Moved};
 use crate::reader::ShownReader;
 use crate::rule::{Looks, Published, Sight, Tells};
 use crate::shown::Shown;
@@ -26,12 +26,18 @@ use view_domain::shown::{KeyChange, ShownChange};
 pub struct Board<T: Absorb<O> + Drop, O: Drop, V, P: Protocol<T, V>, R: Wait + Drop> {
     writer: Writer<T, O, V, P>,
     rt: R,
+    // (of the rows that fill a key: `KeyRows`)
+    is_striped: bool,
 }
 
 impl<T: Absorb<O> + Drop, O: Drop, V, P: Protocol<T, V>, R: Wait + Drop> Drop
     for Board<T, O, V, P, R> {
     fn drop(self) {
-        let Self { writer, rt } = self;
+        let Self {
+            writer,
+            rt,
+            is_striped: _,
+        } = self;
         drop(writer.take(&rt));
     }
 }
@@ -56,11 +62,14 @@ pub fn open<J: Naming, R: Wait + Drop>(
     ensures pending { IfOk result (λ w. pending w ≡ []) }
 {
     let (view, shard) = copy.reader();
-    let is_striped = readers > 2;
-    let first = Shown::new(alloc, plan, view, shard, part, is_striped)?;
-    let second = Shown::new(alloc, plan, view, shard, part, is_striped)?;
+    let first = Shown::new(alloc, plan, view, shard, part)?;
+    let second = Shown::new(alloc, plan, view, shard, part)?;
     let writer = Writer::new(alloc, first, second, readers)?;
-    Ok(Board { writer, rt })
+    Ok(Board {
+        writer,
+        rt,
+        is_striped: readers > 2,
+    })
 }
 
 impl<J: Naming, R: Wait + Drop> ShownWriter<J, R> {
@@ -81,8 +90,10 @@ impl<J: Naming, R: Wait + Drop> ShownWriter<J, R> {
 
     /// Shows a change: what a view's shard tells of one message. It waits for readers that still
     /// look at the copy behind, applies the change to it, and turns readers to it. Errors: memory
-    /// only; readers then see what they saw. Cost: each row that fills a key and each record is
-    /// applied to both copies, and a look at the place of each reader.
+    /// only; readers then see what they saw. Cost: a key that is filled is put into both copies,
+    /// which share its rows; each record is applied to both, and where rows are still shared, by
+    /// the copies or with an answer, after a copy of their bag; and a look at the place of each
+    /// reader.
     pub fn show(&mut self, alloc: Global, change: ShownChange<Front<J>>) -> Result<(), AllocError>
         requires idle { pending self.old ≡ [] }
         requires stage { IfSome change.line (λ _. change.stage < J.plan.stages) }
@@ -94,21 +105,23 @@ impl<J: Naming, R: Wait + Drop> ShownWriter<J, R> {
         ensures err { OnErr result (shown self.new ≡ shown self.old) }
     {
         let (stage, line, keys, asked) = change.into_parts();
-        self.append_keys(keys)?;
+        self.append_keys(alloc, keys)?;
         self.append_line(stage, line)?;
         self.append_asked(asked)?;
         self.publish()
     }
 
-    // Puts what becomes of keys behind what is not published yet.
-    fn append_keys(&mut self, keys: Vec<KeyChange>) -> Result<(), AllocError>
+    // Puts what becomes of keys behind what is not published yet. The rows that fill a key are made
+    // here, for both copies.
+    fn append_keys(&mut self, alloc: Global, keys: Vec<KeyChange>) -> Result<(), AllocError>
         ensures ahead { OnOk result (ahead (state self.new) ≡ record (ahead (state self.old)) {
           rows = fold with_change (ahead (state self.old)).rows keys.items;
         }) }
         ensures shown { shown self.new ≡ shown self.old }
     {
         for key in keys {
-            self.append(Delta::Key(key))?;
+            let step = KeyStep::new(alloc, key, self.is_striped)?;
+            self.append(Delta::Key(step))?;
         }
         Ok(())
     }
