@@ -18,10 +18,10 @@ use Rattle.protocol.specs.Stages.{Done, Stage, ToStage, behind, knows, request}
 use Rattle.protocol.specs.StageSteps.{answered, begins, begins_of, cap_kept, caps, excess, first_goes, look, look_all, looks, next, oldest_goes, packet_taken, piece_given, piece_taken, put, quiet, right_count, shrink, step, takes, with_piece}
 use Rattle.right_rows.specs.Rights.{keys_in}
 use Rattle.stage_sides.specs.Sides.{are_filled, is_open}
-use Rattle.stage_steps.specs.Outboxes.{AreEdges, OutboxView}
-use Rattle.stage_steps.specs.Shards.{AllWait, IsPut, IsShard, IsWhole, Shard, Waits, has_no_entry, stage_of}
+use Rattle.stage_steps.specs.Outboxes.{AreEdges, IsSilent, OutboxView}
+use Rattle.stage_steps.specs.Shards.{AllWait, HasBegun, IsPut, IsShard, IsWhole, Shard, Waits, has_no_entry, stage_of}
 use Rattle.stage_steps.proofs.Begins.{both_hold, none_asked, none_twice, shut_is}
-use Rattle.stage_steps.proofs.Joined.{put_asking}
+use Rattle.stage_steps.proofs.Joined.{put_asking, put_start}
 use Rattle.stage_steps.proofs.Looked.{looked, looked_more, put_looked, put_waiting_none, waiting_none}
 use Rattle.stage_steps.proofs.Puts.{after, put_quiet}
 
@@ -211,15 +211,13 @@ no_longer : (b : Bool) (xs : List Datum) (x : Datum) → length (cond b (xs ++ x
 no_longer true xs x e = absurd (omega (arith, e, length-append xs (x ∷ [])))
 no_longer false xs x e = refl
 
-module _ (j : ℕ) (k : Datum) (keys : Keys) (e : length (give_at j k keys).order ≡ length keys.order) where
-  unfilled : is_filled (fed j (keys.at k)) ≡ is_filled (keys.at k)
-  unfilled = fed_filled j (keys.at k) (no_longer (is_filled (fed j (keys.at k)) && not (is_filled (keys.at k))) keys.order k e)
+given_shut : (j : ℕ) (k : Datum) (keys : Keys) (x : Datum) → is_open x (Some keys) ≡ false → is_open x (Some (give_at j k keys)) ≡ false
+given_shut j k keys x h = stays_shut k (fed j (keys.at k)) keys (fed_shut j (keys.at k)) x h
 
-  given_known : (x : Datum) → knows (Some (give_at j k keys)) x ≡ knows (Some keys) x
-  given_known x = tested is_filled k (fed j (keys.at k)) keys unfilled x
-
-  given_shut : (x : Datum) → is_open x (Some keys) ≡ false → is_open x (Some (give_at j k keys)) ≡ false
-  given_shut x h = stays_shut k (fed j (keys.at k)) keys (fed_shut j (keys.at k)) x h
+given_known : (j : ℕ) (k : Datum) (keys : Keys) → length (give_at j k keys).order ≡ length keys.order → (x : Datum) → knows (Some (give_at j k keys)) x ≡ knows (Some keys) x
+given_known j k keys e x =
+    let unfilled = fed_filled j (keys.at k) (no_longer (is_filled (fed j (keys.at k)) && not (is_filled (keys.at k))) keys.order k e) in
+    tested is_filled k (fed j (keys.at k)) keys unfilled x
 
 -- the right side is as little here as before, and no key has become a hole
 record NoMore (old new : Option Keys) : Type 0 where
@@ -228,7 +226,7 @@ record NoMore (old new : Option Keys) : Type 0 where
 
 given_none : (j : ℕ) (k : Datum) (o : Option Keys) → length (are_filled (piece_given j k o)) ≡ length (are_filled o) → NoMore o (piece_given j k o)
 given_none j k None e = record { known = λ x. refl; shut = λ x h. h }
-given_none j k (Some keys) e = record { known = given_known j k keys e; shut = given_shut j k keys e }
+given_none j k (Some keys) e = record { known = given_known j k keys e; shut = given_shut j k keys }
 
 taken_none : (s : Stage) (j : ℕ) (piece : Piece) (b : Bool) (i : ℕ) → length (are_filled (cond b s.right (piece_given i piece.key s.right))) ≡ length (are_filled s.right) → NoMore s.right (cond b s.right (piece_given i piece.key s.right))
 taken_none s j piece true i e = record { known = λ x. refl; shut = λ x h. h }
@@ -247,6 +245,31 @@ put_unlooked x y d out new j k is all edges none filled taken =
     let count = ap (λ (s : Stage). length (are_filled s.right)) (sym taken.stage) ∙ (filled ∙ ap (λ (s : Stage). length (are_filled s.right)) is.stage) in
     let waits = subst AllWait (sym taken.stage) (packet_waits d.stage j k k.piece k.marker none count (subst AllWait is.stage all)) in
     put_idle (after d (packet_taken d.stage j k k.piece k.marker)) new y taken edges waits
+
+-- ---- a packet with no entry leaves no hole behind a request that waits
+piece_shut : (j : ℕ) (k : Datum) (o : Option Keys) (x : Datum) → is_open x o ≡ false → is_open x (piece_given j k o) ≡ false
+piece_shut j k None x h = h
+piece_shut j k (Some keys) x h = given_shut j k keys x h
+
+taken_shut : (b : Bool) (o p : Option Keys) → ((x : Datum) → is_open x o ≡ false → is_open x p ≡ false) → (x : Datum) → is_open x o ≡ false → is_open x (cond b o p) ≡ false
+taken_shut true o p f x h = h
+taken_shut false o p f x h = f x h
+
+begins_on : (s : Stage) (o : Option Keys) → ((x : Datum) → is_open x s.right ≡ false → is_open x o ≡ false) → (a : Ask) → Waits s a → HasBegun (record s { right = o }) a
+begins_on s o shut a h = all_stay s.right o (behind s (view_of a.tag) a.key) shut h.1
+
+packet_begun : (s : Stage) (j : ℕ) (k : BasePacketView) (piece : Option Piece) (marker : Option Mark) → (is_some piece || is_some marker) ≡ true → AllWait s → let t = (packet_taken s j k piece marker).stage in Each (HasBegun t) t.pending
+packet_begun s j k None None some all = absurd (true≢false (sym some))
+packet_begun s j k None (Some m) some all = Each-weaker (Waits s) (HasBegun s) (λ a h. h.1) s.pending all
+packet_begun s j k (Some piece) marker some all =
+    let i = j - side_count s.plan s.plan.left in
+    let shut = taken_shut (is_left s.plan j || not (piece.tag == right_tag)) s.right (piece_given i piece.key s.right) (piece_shut i piece.key s.right) in
+    Each-weaker (Waits s) (HasBegun (record s { right = piece_taken s j piece })) (begins_on s (piece_taken s j piece) shut) s.pending all
+
+pub has_begun : (x y : Shard) (out new : OutboxView) (j : ℕ) (k : BasePacketView) → IsSilent out → AreEdges x.plan out → AllWait (stage_of x) → has_no_entry k ≡ true → ((d : Done) → IsPut d out x → IsPut (after d (packet_taken d.stage j k k.piece k.marker)) new y) → Each (HasBegun (stage_of y)) y.pending
+has_begun x y out new j k silent edges all none taken =
+    let put = taken (quiet (stage_of x)) (put_start x out silent edges) in
+    subst (λ (s : Stage). Each (HasBegun s) s.pending) (sym put.stage) (packet_begun (stage_of x) j k k.piece k.marker none all)
 
 -- ---- where a call went well
 pub both_ok : {X E A B C : Type 0} (r : Result X E) → (A → B → C) → OnOk r A → OnOk r B → OnOk r C

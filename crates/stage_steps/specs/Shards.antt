@@ -64,9 +64,13 @@ pub record IsWhole (x : Shard) : Type 0 where
   pub rows : HoldsRows x.plan x.shard (entries_of x.line) x.rows
   pub pending : Each (λ (a : Ask). view_of a.tag < length x.plan.views) x.pending
 
--- of the stage keys behind the request some right rows are lacking, and none of these keys is a hole
+-- none of the stage keys behind the request is a hole
+abbrev pub HasBegun : Stage → Ask → Type 0
+HasBegun s a = list_all (λ x. not (is_open x s.right)) (behind s (view_of a.tag) a.key) ≡ true
+
+-- of these keys some right rows are lacking, and none of them is a hole
 abbrev pub Waits : Stage → Ask → Type 0
-Waits s a = let needed = behind s (view_of a.tag) a.key in (list_all (knows s.right) needed ≡ false) × (list_all (λ x. not (is_open x s.right)) needed ≡ true)
+Waits s a = (list_all (knows s.right) (behind s (view_of a.tag) a.key) ≡ false) × HasBegun s a
 
 -- each request that waits has to
 abbrev pub AllWait : Stage → Type 0

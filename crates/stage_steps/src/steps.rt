@@ -2,12 +2,12 @@
 //! requests that wait, and the stage keys that go.
 ghost use Rattle.std.specs.Prelude.{◌≡◌, ◌<◌, ◌∷◌, ◌==◌, ◌&&◌, [], IfOk, None, OnOk, Some, length, map, not, slice_get, true};
 ghost use Rattle.std.specs.List.{list_all};
-ghost use Rattle.row.specs.Cells.{datum_of};
+ghost use Rattle.row.specs.{Bags.Each, Cells.datum_of};
 ghost use Rattle.model.specs.Places.{sources};
 ghost use Rattle.ops.specs.SideRows.{is_here};
 ghost use Rattle.packet.specs.{Codes.mark_of, Lines.entries_of, Messages.Piece as PieceView, Outboxes.packets_on, Readers.is_left, Readers.readers, Readers.right_tag, Readers.view_of};
 ghost use Rattle.protocol.specs.{Stages.Done, Stages.behind, Stages.knows, StageSteps.answered, StageSteps.append_each, StageSteps.asks, StageSteps.asks_for, StageSteps.caps, StageSteps.look, StageSteps.looks, StageSteps.marker_taken, StageSteps.next, StageSteps.oldest_goes, StageSteps.order_taken, StageSteps.packet_taken, StageSteps.piece_taken, StageSteps.quiet, StageSteps.step, StageSteps.takes};
-ghost use Rattle.stage_steps.specs.{Codes.message_of, Outboxes.AreEdges, Outboxes.IsSilent, Outboxes.OutboxView, Shards.IsFrom, Shards.IsPut, Shards.IsSame, Shards.IsShard, Shards.IsWhole, Shards.Meets, Shards.given, Shards.gone_to, Shards.has_no_entry, Shards.stage_of, Told.answer_of, Told.told};
+ghost use Rattle.stage_steps.specs.{Codes.message_of, Outboxes.AreEdges, Outboxes.IsSilent, Outboxes.OutboxView, Shards.IsFrom, Shards.IsPut, Shards.IsSame, Shards.IsShard, Shards.IsWhole, Shards.Meets, Shards.HasBegun, Shards.given, Shards.gone_to, Shards.has_no_entry, Shards.stage_of, Told.answer_of, Told.told};
 
 use crate::edges::{edge_to, view_of};
 use crate::entries::right_source;
@@ -63,6 +63,7 @@ impl<'p, F: Fronts> StageShard<'p, F> {
     ) -> Result<(), AllocError>
         requires whole { IsShard self.old }
         requires edges { AreEdges self.old.plan out.old }
+        requires silent { IsSilent out.old }
         requires meets { Meets self.old (message_of message) }
         ensures whole { OnOk result (IsWhole self.new) }
         ensures edges { AreEdges self.old.plan out.new }
@@ -77,8 +78,8 @@ impl<'p, F: Fronts> StageShard<'p, F> {
         }
     }
 
-    /// Takes a packet, and looks at the requests that wait, unless it brings no entry and fills no
-    /// stage key.
+    /// Takes a packet, and looks at the requests that wait. One that brings no entry makes no stage
+    /// key a hole, and ends no wait unless it fills one.
     fn take_and_look(
         &mut self,
         alloc: Global,
@@ -88,6 +89,7 @@ impl<'p, F: Fronts> StageShard<'p, F> {
     ) -> Result<(), AllocError>
         requires whole { IsShard self.old }
         requires edges { AreEdges self.old.plan out.old }
+        requires silent { IsSilent out.old }
         requires from { IsFrom self.old.plan self.old.shard source packet }
         requires next { slice_get (entries_of self.old.line) source ≡ Some packet.from }
         ensures whole { OnOk result (IsWhole self.new) }
@@ -100,10 +102,13 @@ impl<'p, F: Fronts> StageShard<'p, F> {
         let has_no_entry = brings_no_entry(&packet);
         let filled = self.rows.filled();
         self.take_packet(alloc, source, packet, out)?;
-        if has_no_entry && self.rows.filled() == filled {
+        if !has_no_entry {
+            return self.look(alloc, out);
+        }
+        if self.rows.filled() == filled {
             return Ok(());
         }
-        self.look(alloc, out)
+        self.answer_ready(alloc, out)
     }
 
     /// Makes a filled stage key a hole, as `evict` does, and looks at the requests that wait.
@@ -295,6 +300,54 @@ impl<'p, F: Fronts> StageShard<'p, F> {
         let needed = self.rows.behind(alloc, view, ask.key())?;
         self.ask_for(alloc, &needed, out)?;
         self.answer(alloc, ask, &needed, out)
+    }
+
+    /// Answers each request that waits and lacks nothing any more, in order of arrival, where none of
+    /// the stage keys behind it is a hole. Errors: memory only; then nothing is said of the shard, and
+    /// some are told. Cost: for each request a look-up by hash, and one for each left row of its key;
+    /// for an answer that of `StageRows::piece` and a copy of the line.
+    fn answer_ready(&mut self, alloc: Global, out: &mut StageOutbox<F>) -> Result<(), AllocError>
+        requires whole { IsWhole self.old }
+        requires edges { AreEdges self.old.plan out.old }
+        requires begun { Each (HasBegun (stage_of self.old)) self.old.pending }
+        ensures whole { OnOk result (IsWhole self.new) }
+        ensures edges { AreEdges self.old.plan out.new }
+        ensures same { IsSame self.old self.new }
+        ensures done { (d : Done) → IsPut d out.old self.old
+            → OnOk result (IsPut (next d looks) out.new self.new) }
+    {
+        let pending = mem::replace(&mut self.pending, Vec::new(alloc));
+        for ask in pending {
+            self.answer_or_wait(alloc, ask, out)?;
+        }
+        Ok(())
+    }
+
+    /// Answers a request that lacks nothing, and lets any other wait on.
+    fn answer_or_wait(
+        &mut self,
+        alloc: Global,
+        ask: Request,
+        out: &mut StageOutbox<F>,
+    ) -> Result<(), AllocError>
+        requires whole { IsWhole self.old }
+        requires edges { AreEdges self.old.plan out.old }
+        requires there { view_of ask.tag < length self.old.plan.views }
+        requires begun { HasBegun (stage_of self.old) ask }
+        ensures whole { OnOk result (IsWhole self.new) }
+        ensures edges { AreEdges self.old.plan out.new }
+        ensures same { IsSame self.old self.new }
+        ensures others { self.new ≡ record self.old { pending = self.new.pending } }
+        ensures done { (d : Done) → IsPut d out.old self.old
+            → OnOk result (IsPut (next d (λ s. look s ask)) out.new self.new) }
+    {
+        self.rows.keeps_order();
+        let view = view_of(ask.tag());
+        if self.rows.knows_behind(view, ask.key()) {
+            return self.give(alloc, ask, out);
+        }
+        self.pending.push(ask)?;
+        Ok(())
     }
 
     /// Asks each right source for those of the stage keys that are holes, which begin to wait.
