@@ -12,6 +12,7 @@ use model::entry::Entry;
 use row::grouped::Grouped;
 use row::record::{Record, Sign};
 use row::refused::Refused;
+use row::room::reserve_one;
 use row::row::Row;
 use row::value::Value;
 use std::alloc::{AllocError, Global};
@@ -325,7 +326,7 @@ impl BaseShard {
         ensures err { OnErr result (self.new ≡ self.old) }
     {
         let key = key.try_clone(alloc).map_err(|_| Refused::NoMemory)?;
-        self.rows.reserve(1).map_err(|_| Refused::NoMemory)?;
+        reserve_one(&mut self.rows).map_err(|_| Refused::NoMemory)?;
         self.ready = Some(key);
         Ok(())
     }

@@ -51,8 +51,9 @@ impl Rows {
         }
     }
 
-    /// Puts the row in a place, and those from there on behind it. Errors: memory only; then the rows
-    /// are as they were. Cost: a move of the rows behind.
+    /// Puts the row in a place, and those from there on behind it. A list that is full gets room for a
+    /// quarter more than it has. Errors: memory only; then the rows are as they were. Cost: a move of
+    /// the rows behind, and where the list is full one of all, spread over many.
     pub(crate) fn insert(&mut self, alloc: Global, at: usize, row: Row) -> Result<(), AllocError>
         requires { at ≤ length (rows_in self.old) }
         ensures items { OnOk result (rows_in self.new ≡ insert (rows_in self.old) at row) }
@@ -73,6 +74,10 @@ impl Rows {
                 Ok(())
             }
             Rows::Many(rows) => {
+                let len = rows.len();
+                if len == rows.capacity() {
+                    rows.reserve_exact(len / 4 + 1)?;
+                }
                 rows.insert(at, row)?;
                 Ok(())
             }

@@ -46,7 +46,7 @@ impl<J: Naming> Moved<J> {
 
 /// What becomes of a key, with rows that copies can share.
 #[derive(Drop)]
-enum OfKey {
+enum SharedChange {
     /// It is filled with these rows.
     Fills { key: Value, rows: KeyRows },
     /// Its rows change by these records.
@@ -57,7 +57,7 @@ enum OfKey {
 
 /// What becomes of a shown key, seen as the change that was told of it.
 pub struct KeyStep {
-    step: OfKey,
+    step: SharedChange,
 }
 
 // What holds one drops it by this call, and need not know its parts.
@@ -87,28 +87,28 @@ impl KeyStep {
         ensures { IfOk result (λ s. s ≡ change) }
     {
         let step = match change {
-            KeyChange::Fills { key, rows } => OfKey::Fills {
+            KeyChange::Fills { key, rows } => SharedChange::Fills {
                 key,
                 rows: KeyRows::new(alloc, rows, is_striped)?,
             },
-            KeyChange::Turns { key, records } => OfKey::Turns { key, records },
-            KeyChange::Goes { key } => OfKey::Goes { key },
+            KeyChange::Turns { key, records } => SharedChange::Turns { key, records },
+            KeyChange::Goes { key } => SharedChange::Goes { key },
         };
         Ok(KeyStep { step })
     }
 
     /// Changes the shown keys. A key that is filled shares the rows of the step. Errors: memory
-    /// only; then all is as it was. Constant time, and that of the records.
+    /// only; then all is as it was. Constant time, and that of `KeyRows::apply`.
     pub(crate) fn apply(&self, alloc: Global, shown: &mut Entries) -> Result<(), AllocError>
         ensures applied { OnOk result (shown.new ≡ with_change shown.old self.now) }
         ensures err { OnErr result (shown.new ≡ shown.old) }
     {
         match &self.step {
-            OfKey::Fills { key, rows } => {
+            SharedChange::Fills { key, rows } => {
                 shown.put(key.try_clone(alloc)?, rows.try_clone(alloc)?)
             }
-            OfKey::Turns { key, records } => shown.turn(alloc, key, records.records()),
-            OfKey::Goes { key } => {
+            SharedChange::Turns { key, records } => shown.turn(alloc, key, records.records()),
+            SharedChange::Goes { key } => {
                 shown.remove(key);
                 Ok(())
             }

@@ -58,7 +58,7 @@ impl Entries {
     }
 
     /// Changes the rows of a key by records, where it is there. Errors: memory only; then all is as
-    /// it was. Constant time, and that of the records.
+    /// it was. Constant time, and that of `KeyRows::apply`.
     pub fn turn(&mut self, alloc: Global, key: &Value, records: &[Record]) -> Result<(), AllocError>
         ensures turned { OnOk result (self.new ≡ turned (datum_of key.now) records.now self.old) }
         ensures err { OnErr result (self.new ≡ self.old) }

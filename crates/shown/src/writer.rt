@@ -26,7 +26,7 @@ use view_domain::shown::{KeyChange, ShownChange};
 pub struct Board<T: Absorb<O> + Drop, O: Drop, V, P: Protocol<T, V>, R: Wait + Drop> {
     writer: Writer<T, O, V, P>,
     rt: R,
-    // (of the rows that fill a key: `KeyRows`)
+    // Whether the rows that fill a key are striped (`KeyRows`).
     is_striped: bool,
 }
 

@@ -64,6 +64,7 @@ pub record IsWhole (x : Shard) : Type 0 where
   pub rows : HoldsRows x.plan x.shard (entries_of x.line) x.rows
   pub pending : Each (λ (a : Ask). view_of a.tag < length x.plan.views) x.pending
 
+-- ---- the requests that wait
 -- none of the stage keys behind the request is a hole
 abbrev pub HasBegun : Stage → Ask → Type 0
 HasBegun s a = list_all (λ x. not (is_open x s.right)) (behind s (view_of a.tag) a.key) ≡ true
@@ -72,11 +73,11 @@ HasBegun s a = list_all (λ x. not (is_open x s.right)) (behind s (view_of a.tag
 abbrev pub Waits : Stage → Ask → Type 0
 Waits s a = (list_all (knows s.right) (behind s (view_of a.tag) a.key) ≡ false) × HasBegun s a
 
--- each request that waits has to
+-- each request that waits has to wait on
 abbrev pub AllWait : Stage → Type 0
 AllWait s = Each (Waits s) s.pending
 
--- the same between two messages: each request that waits was looked at, and has to wait on
+-- a whole stage shard between two messages: each request that waits was looked at, and has to wait on
 pub record IsShard (x : Shard) : Type 0 where
   pub whole : IsWhole x
   pub waits : AllWait (stage_of x)

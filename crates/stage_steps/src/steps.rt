@@ -54,7 +54,7 @@ impl<'p, F: Fronts> StageShard<'p, F> {
     }
 
     /// Takes a message, and looks at the requests that wait where it may end the wait of one: a
-    /// request makes none before it ready.
+    /// further request makes none of those before it ready.
     fn take(
         &mut self,
         alloc: Global,
