@@ -76,10 +76,46 @@ pub fn calls_of_kept<
         .look("by_author", &Value::Int(7), false)
         .map_err(fail)?;
     caller.make_all(AFTER_LOOK)?;
-    match kept {
-        Found::Hit(answer) => expect(answer.rows.len() == 1),
-        Found::Miss => expect(false),
+    expect(is_one_row(&kept))
+}
+
+// Whether one row was found.
+fn is_one_row(found: &Found) -> bool {
+    match found {
+        Found::Hit(answer) => answer.rows.len() == 1,
+        Found::Miss => false,
     }
+}
+
+#[test]
+fn an_answer_that_another_session_keeps(rt: HostRuntime) -> Result<(), Fail> {
+    run_notes(rt, rt.alloc(), 2, 1, Scene::KeptBeside)?;
+    run_notes(rt, rt.alloc(), 2, usize::MAX, Scene::KeptBeside)
+}
+
+const SHOWN_BESIDE: &[Step] = &[(Call::TryRead(7), Ok(Told::Rows(3, 3)))];
+
+// An answer of a second session, which counts the rows of a key by another stripe, keeps its row
+// while the first session adds two.
+pub fn calls_of_kept_beside<
+    J: Naming + Send + Sync + 'static,
+    R: Threads + Wait + Copy + Drop + Send + 'static,
+>(running: &mut Running<J, R>) -> Result<(), Fail> {
+    let mut writer = used(running)?;
+    let mut reader = running.next()?;
+    keep_beside(&mut writer, &mut reader)
+}
+
+fn keep_beside<J: Naming, R: Wait>(
+    writer: &mut Caller<J, R>,
+    reader: &mut Caller<J, R>,
+) -> Result<(), Fail> {
+    let kept = reader
+        .look("by_author", &Value::Int(7), false)
+        .map_err(fail)?;
+    writer.make_all(AFTER_LOOK)?;
+    reader.make_all(SHOWN_BESIDE)?;
+    expect(is_one_row(&kept))
 }
 
 #[test]

@@ -21,6 +21,7 @@ use workers::gate::{Gate, OpenGate};
 pub enum Scene {
     FourSessions,
     Kept,
+    KeptBeside,
     Meeting,
     Stopped,
     Lines(&'static [Line]),
@@ -98,6 +99,7 @@ fn play<J: Naming + Send + Sync + 'static, R: Threads + Wait + Copy + Drop + Sen
     let played = match scene {
         Scene::FourSessions => callers::calls_of_four(&mut running),
         Scene::Kept => callers::calls_of_kept(&mut running),
+        Scene::KeptBeside => callers::calls_of_kept_beside(&mut running),
         Scene::Meeting => callers::calls_of_two(&mut running),
         Scene::Lines(lines) => insert_lines(&mut running, lines),
         Scene::Stopped => return callers::calls_of_stopped(running),
