@@ -1,4 +1,5 @@
 pub mod Orders
+pub mod Parts
 pub mod Fronts
 pub mod Lookups
 pub mod Stores

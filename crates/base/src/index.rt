@@ -1,12 +1,12 @@
 //! Rows of a base shard that are found by a column.
-ghost use Rattle.std.specs.Prelude.{◌≡◌, ◌≢◌, [], ◌∷◌, List, IfOk, IfSome, OnOk, OnErr, filter};
-ghost use Rattle.row.specs.{Cells.Cells, Cells.row_cmp, Bags.IsAscending};
+ghost use Rattle.std.specs.Prelude.{◌≡◌, ◌≢◌, [], ◌∷◌, List, IfOk, IfSome, OnOk, OnErr, filter, true};
+ghost use Rattle.row.specs.{Cells.Cells, Cells.datum_of, Cells.has, Cells.row_cmp, Bags.Each, Bags.IsAscending};
 ghost use Rattle.base.specs.{Indexed.AreIndexes, Indexed.IsIndex, Indexed.IsOf, Parts.is_in};
 
 use crate::part::Part;
 use row::grouped::Grouped;
-use row::row::Row;
-use row::value::Value;
+use row::row::{Row, copies};
+use row::value::{Value, shard_of};
 use std::alloc::{AllocError, Global};
 
 /// The rows of a shard that have a column, found by it, and with them one that an entry is to
@@ -146,8 +146,32 @@ pub(crate) fn lose_all(indexes: &mut Vec<Index>, row: &Row)
     }
 }
 
+/// Copies of those of the rows that belong to the part, where each has the value in the column. Errors:
+/// memory only. Cost: where the part is by that column, one look at the value, else one at each row,
+/// and a copy of each that belongs to it.
+pub(crate) fn copies_in(
+    alloc: Global,
+    rows: &[Row],
+    column: usize,
+    value: &Value,
+    part: Part,
+) -> Result<Vec<Row>, AllocError>
+    requires some { part.shards ≢ 0 }
+    requires keyed { Each (λ r. has column (datum_of value.now) r ≡ true) rows.now }
+    ensures { IfOk result (λ v. v.items ≡ filter (is_in part) rows.now) }
+{
+    if part.column != column {
+        return each_in(alloc, rows, part);
+    }
+    if shard_of(value, part.shards) == part.shard {
+        copies(alloc, rows)
+    } else {
+        Ok(Vec::new(alloc))
+    }
+}
+
 /// Copies of those of the rows that belong to the part, in room for all. Errors: memory only.
-pub(crate) fn copies_in(alloc: Global, rows: &[Row], part: Part) -> Result<Vec<Row>, AllocError>
+fn each_in(alloc: Global, rows: &[Row], part: Part) -> Result<Vec<Row>, AllocError>
     requires { part.shards ≢ 0 }
     ensures { IfOk result (λ v. v.items ≡ filter (is_in part) rows.now) }
 {

@@ -264,7 +264,7 @@ impl BaseShard {
     /// The rows of the part that have the value in the column, in order, a repeat each time: what
     /// the front of the log has of them. Errors: memory only. Cost: where an index by the column
     /// stands and no row waits in it (`reserve_indexes`), one look-up by hash, a look at each row
-    /// of the value, and a copy of each that is found. Else a look at each row of the shard, a copy
+    /// of the value unless the part is by that column too, and a copy of each that is found. Else a look at each row of the shard, a copy
     /// of each that is found, and a sort of those.
     pub fn lookup(
         &self,
@@ -280,7 +280,7 @@ impl BaseShard {
             ≡ found column (datum_of value.now) part (rows_of self.now.key front)) }
     {
         if let Some(rows) = self.index(column) {
-            return copies_in(alloc, rows.rows_of(value), part);
+            return copies_in(alloc, rows.rows_of(value), column, value, part);
         }
         let mut found = Vec::new(alloc);
         for row in self.rows.values() {

@@ -1,13 +1,21 @@
-use Rattle.std.proofs.Common.{ap, sym, filter, ◌∙◌, [], ◌∷◌, ◌++◌}
+use Rattle.std.proofs.Common.{◌≡◌, true, ap, subst, sym, filter, ◌∙◌, [], ◌∷◌, ◌++◌}
 use Rattle.std.specs.HashMap.{values}
-use Rattle.row.specs.Cells.{datum_of}
+use Rattle.row.specs.Cells.{datum_of, has}
 use Rattle.model.specs.Logs.{rows_of}
 use Rattle.base.specs.Parts.{found, is_in}
 use Rattle.base.proofs.Finds.{wanted, finds, passes_part, passes_value, found_all, found_sorted}
 use Rattle.base.proofs.Indexes.{found_by}
 use Rattle.base.proofs.Kept.{if_ok}
+use Rattle.row.specs.Bags.{Each}
+use Rattle.row.proofs.Filtered.{Each-filtered}
 use Rattle.base.proofs.shard.BaseShard.lookup.Goals as goal
 use Rattle.base.proofs.shard.BaseShard.lookup.Goals.{else-has-via-then-has+else-has-2, else-has-via-else-has}
+
+pub copies_in-requires-clause-keyed : goal.copies_in-requires-clause-keyed
+copies_in-requires-clause-keyed c =
+    let d = datum_of c.args.value.now in
+    let by = rw c.in-Some.is at c.index.ensures.found in
+    subst (λ rows. Each (λ r. has c.args.column d r ≡ true) rows) (sym c.rows_of.ensures) (rw by.0 (Each-filtered (has c.args.column d) c.in-Some.rows.now.rows))
 
 pub returns-in-Some-clause-rows : goal.returns-in-Some-clause-rows
 returns-in-Some-clause-rows c =
