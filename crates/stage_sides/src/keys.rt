@@ -32,13 +32,15 @@ pub(crate) fn no_stage(
     stage.is_full();
     let (shape, left, right) = stage.into_sides();
     let right = match plan.right() {
-        None => HeldSide::Full(right),
+        None => HeldSide::Full(Box::new(alloc, right)?),
         Some(side) => {
             let aggregate = shape.aggregate_of_right();
-            HeldSide::ByKey(RightRows::new(alloc, side.key(), aggregate, sources)?)
+            let rights = RightRows::new(alloc, side.key(), aggregate, sources)?;
+            HeldSide::ByKey(Box::new(alloc, rights)?)
         }
     };
-    Ok(Stage::over(shape, HeldSide::Full(left), right))
+    let left = HeldSide::Full(Box::new(alloc, left)?);
+    Ok(Stage::over(shape, left, right))
 }
 
 /// The right rows are seen in order. Constant time.
