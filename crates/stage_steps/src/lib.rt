@@ -8,5 +8,6 @@ mod keyed;
 pub mod message;
 pub mod outbox;
 mod packets;
+mod requests;
 pub mod shard;
 mod steps;

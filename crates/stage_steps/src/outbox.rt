@@ -96,6 +96,16 @@ impl<F: Fronts> StageOutbox<F> {
         self.requests.take(alloc, source)
     }
 
+    /// Keeps the room of a list that `take_requests` gave and that has nothing left, as
+    /// `Edges::keep_room` does. It takes no memory.
+    pub fn keep_request_room(&mut self, source: usize, room: Vec<Request>)
+        requires { source < length self.old.requests }
+        ensures requests { packets_on self.new.requests ≡ packets_on self.old.requests }
+        ensures others { self.new ≡ record self.old { requests = self.new.requests } }
+    {
+        self.requests.keep_room(source, room);
+    }
+
     /// Drops all that is put out. It takes no memory.
     pub fn clear(&mut self)
         ensures silent { IsSilent self.new }

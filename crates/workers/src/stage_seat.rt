@@ -243,6 +243,8 @@ fn send_requests<J: Naming, R: Wait>(
         sent = send_each(sent, &mut requests, |request| {
             routes.stage_to_source(rt, stage, source, request)
         });
+        requests.clear();
+        out.keep_request_room(source, requests);
     }
     sent
 }

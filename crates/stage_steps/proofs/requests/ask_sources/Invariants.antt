@@ -5,7 +5,7 @@ use Rattle.model.specs.Places.{side_count}
 use Rattle.packet.specs.Outboxes.{packets_on}
 use Rattle.protocol.specs.StageSteps.{append_each}
 use Rattle.stage_steps.proofs.Asks.{asked_of}
-use Rattle.stage_steps.proofs.steps.ask_sources.Given as goal
+use Rattle.stage_steps.proofs.requests.ask_sources.Given as goal
 
 abbrev pub invariant-loop-source : goal.invariant-loop-source
 invariant-loop-source g l = record {

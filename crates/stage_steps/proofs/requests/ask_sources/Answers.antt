@@ -5,7 +5,7 @@ use Rattle.model.specs.Places.{side_count, sources}
 use Rattle.packet.specs.Outboxes.{packets_on}
 use Rattle.protocol.specs.StageSteps.{append_each}
 use Rattle.stage_steps.proofs.Asks.{asked_of, lefts_asked, asked_more, lefts_small, lefts_are, request_is}
-use Rattle.stage_steps.proofs.steps.ask_sources.Goals as goal
+use Rattle.stage_steps.proofs.requests.ask_sources.Goals as goal
 
 pub loop-source-init : goal.loop-source-init
 loop-source-init g c =
