@@ -19,12 +19,12 @@ module _ (part : Part) (v : Datum) where
       step None e = absurd cc
       step (Some x) e = ap (λ d. shard d part.shards == part.shard) (same_is x v e)
 
-  -- all are in it
+  -- where the value is of the part, all are in it
   pub all_in : (rows : List Cells) → Each (λ r. has part.column v r ≡ true) rows → takes ≡ true → rows ≡ filter (is_in part) rows
   all_in [] h e = refl
   all_in (row ∷ rows) h e = rw (in_by row h.0, e) (ap (λ t. row ∷ t) (all_in rows h.1 e))
 
-  -- none is
+  -- where it is of another, none is
   pub none_in : (rows : List Cells) → Each (λ r. has part.column v r ≡ true) rows → takes ≡ false → [] ≡ filter (is_in part) rows
   none_in [] h e = refl
   none_in (row ∷ rows) h e = rw (in_by row h.0, e) (none_in rows h.1 e)

@@ -146,9 +146,9 @@ pub(crate) fn lose_all(indexes: &mut Vec<Index>, row: &Row)
     }
 }
 
-/// Copies of those of the rows that belong to the part, where each has the value in the column. Errors:
-/// memory only. Cost: where the part is by that column, one look at the value, else one at each row,
-/// and a copy of each that belongs to it.
+/// Copies of those of the rows that belong to the part, where each has the value in the column.
+/// Errors: memory only. Cost: where the part is by that column, one look at the value, else one at
+/// each row, and a copy of each that belongs to it.
 pub(crate) fn copies_in(
     alloc: Global,
     rows: &[Row],

@@ -264,8 +264,8 @@ impl BaseShard {
     /// The rows of the part that have the value in the column, in order, a repeat each time: what
     /// the front of the log has of them. Errors: memory only. Cost: where an index by the column
     /// stands and no row waits in it (`reserve_indexes`), one look-up by hash, a look at each row
-    /// of the value unless the part is by that column too, and a copy of each that is found. Else a look at each row of the shard, a copy
-    /// of each that is found, and a sort of those.
+    /// of the value unless the part is by that column too, and a copy of each that is found. Else a
+    /// look at each row of the shard, a copy of each that is found, and a sort of those.
     pub fn lookup(
         &self,
         alloc: Global,

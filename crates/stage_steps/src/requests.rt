@@ -1,9 +1,8 @@
 //! The requests that wait at a stage shard: the look at each, the stage keys that it asks for, and
 //! its answer.
-ghost use Rattle.std.specs.Prelude.{◌≡◌, ◌<◌, ◌∷◌, [], IfOk, None, OnOk, Some, length, map, true};
+ghost use Rattle.std.specs.Prelude.{◌≡◌, ◌<◌, ◌∷◌, [], IfOk, OnOk, length, map, true};
 ghost use Rattle.std.specs.List.{list_all};
 ghost use Rattle.row.specs.{Bags.Each, Cells.datum_of};
-ghost use Rattle.model.specs.Places.{sources};
 ghost use Rattle.ops.specs.SideRows.{is_here};
 ghost use Rattle.packet.specs.{Lines.entries_of, Outboxes.packets_on, Readers.view_of};
 ghost use Rattle.protocol.specs.{Stages.Done, Stages.behind, Stages.knows, StageSteps.answered, StageSteps.append_each, StageSteps.asks, StageSteps.asks_for, StageSteps.look, StageSteps.looks, StageSteps.next};
@@ -30,9 +29,9 @@ impl<'p, F: Fronts> StageShard<'p, F> {
     /// of all of them are here it is answered with one packet to the view shard of its key, else it
     /// waits on. Errors: memory only; then nothing is said of the shard, and some are told or
     /// asked. Cost: for each request at most three look-ups by hash for each left row of its key, and
-    /// where one of the stage keys is a hole as many again and a copy of each; for a key that begins
-    /// to wait a copy of it for each right source; for an answer that of `StageRows::piece` and a copy
-    /// of the line.
+    /// where one of the stage keys is a hole as many again and two copies of each; for a key that
+    /// begins to wait one look-up more, the number of sources, and a copy of it for each right source;
+    /// for an answer that of `StageRows::piece` and a copy of the line.
     pub(crate) fn look(&mut self, alloc: Global, out: &mut StageOutbox<F>) -> Result<(), AllocError>
         requires whole { IsWhole self.old }
         requires edges { AreEdges self.old.plan out.old }
@@ -49,8 +48,8 @@ impl<'p, F: Fronts> StageShard<'p, F> {
         Ok(())
     }
 
-    /// Looks at one request. Where all is here it is answered, and where no key is a hole it waits on,
-    /// with no list of the keys.
+    /// Looks at one request. Where all is here it is answered, and where no key is a hole it waits
+    /// on, with no list of the keys.
     pub(crate) fn look_at(
         &mut self,
         alloc: Global,
@@ -80,10 +79,10 @@ impl<'p, F: Fronts> StageShard<'p, F> {
         self.answer(alloc, ask, &needed, out)
     }
 
-    /// Answers each request that waits and lacks nothing any more, in order of arrival, where none of
-    /// the stage keys behind it is a hole. Errors: memory only; then nothing is said of the shard, and
-    /// some are told. Cost: for each request a look-up by hash, and one for each left row of its key;
-    /// for an answer that of `StageRows::piece` and a copy of the line.
+    /// Answers each request that waits and lacks nothing any more, in order of arrival, where none
+    /// of the stage keys behind it is a hole. Errors: memory only; then nothing is said of the shard,
+    /// and some are told. Cost: for each request a look-up by hash, and one for each left row of its
+    /// key; for an answer that of `StageRows::piece` and a copy of the line.
     pub(crate) fn answer_ready(
         &mut self,
         alloc: Global,

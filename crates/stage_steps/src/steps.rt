@@ -1,6 +1,6 @@
-//! The step of a stage shard: what it makes of a packet, a request or an order, and the stage keys that
-//! go.
-ghost use Rattle.std.specs.Prelude.{◌≡◌, ◌<◌, ◌∷◌, ◌==◌, ◌&&◌, [], None, OnOk, Some, length, map, not, slice_get, true};
+//! The step of a stage shard: what it makes of a packet, a request or an order, and the stage keys
+//! that go.
+ghost use Rattle.std.specs.Prelude.{◌≡◌, ◌<◌, ◌∷◌, ◌==◌, ◌&&◌, [], OnOk, Some, length, map, not, slice_get};
 ghost use Rattle.row.specs.{Cells.datum_of};
 ghost use Rattle.model.specs.Places.{sources};
 ghost use Rattle.packet.specs.{Codes.mark_of, Lines.entries_of, Messages.Piece as PieceView, Outboxes.packets_on, Readers.is_left, Readers.readers, Readers.right_tag};

@@ -1,13 +1,13 @@
 use Rattle.std.proofs.Common.{◌≡◌, true, ap, subst, sym, filter, ◌∙◌, [], ◌∷◌, ◌++◌}
 use Rattle.std.specs.HashMap.{values}
+use Rattle.row.specs.Bags.{Each}
 use Rattle.row.specs.Cells.{datum_of, has}
+use Rattle.row.proofs.Filtered.{Each-filtered}
 use Rattle.model.specs.Logs.{rows_of}
 use Rattle.base.specs.Parts.{found, is_in}
 use Rattle.base.proofs.Finds.{wanted, finds, passes_part, passes_value, found_all, found_sorted}
 use Rattle.base.proofs.Indexes.{found_by}
 use Rattle.base.proofs.Kept.{if_ok}
-use Rattle.row.specs.Bags.{Each}
-use Rattle.row.proofs.Filtered.{Each-filtered}
 use Rattle.base.proofs.shard.BaseShard.lookup.Goals as goal
 use Rattle.base.proofs.shard.BaseShard.lookup.Goals.{else-has-via-then-has+else-has-2, else-has-via-else-has}
 
