@@ -8,4 +8,5 @@ use Rattle.row.specs.declared.rows.Rows.TheVariants as place
 abbrev pub rows_in : Rows → List Cells
 rows_in place.None = []
 rows_in (place.One row) = row ∷ []
+rows_in (place.Two rows) = box_value rows
 rows_in (place.Many rows) = (box_value rows).items

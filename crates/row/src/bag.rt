@@ -6,7 +6,7 @@ ghost use Rattle.row.specs.{Cells.row_cmp, Bags.times, Bags.inserted, Bags.remov
 
 use crate::record::{Record, Sign};
 use crate::row::Row;
-use crate::rows::Rows;
+use crate::rows::{Rows, parted};
 use std::alloc::{AllocError, Global};
 use std::marker::Model;
 
@@ -121,6 +121,11 @@ impl Bag {
         match rows {
             Rows::None => {}
             Rows::One(row) => self.add(row)?,
+            Rows::Two(rows) => {
+                let (first, last) = parted(rows);
+                self.add(first)?;
+                self.add(last)?;
+            }
             Rows::Many(rows) => self.add_each(Box::into_inner(rows))?,
         }
         Ok(())

@@ -1,16 +1,18 @@
 //! The places of the rows of a bag.
-ghost use Rattle.std.specs.Prelude.{◌≡◌, ◌<◌, ◌≤◌, [], length, insert, remove, IfOk, OnOk, OnErr};
+ghost use Rattle.std.specs.Prelude.{◌≡◌, ◌<◌, ◌≤◌, ◌∷◌, [], box_value, length, insert, remove, IfOk, OnOk, OnErr};
 ghost use Rattle.row.specs.Held.{rows_in};
 
 use crate::row::{Row, copies};
 use std::alloc::{AllocError, Global};
 use std::{mem, slice};
 
-/// A list of rows in two words. One that never had two rows takes no memory.
+/// A list of rows in two words. One that never had two rows takes no memory, and two lie in one piece
+/// of it.
 #[derive(Debug, Drop)]
 pub(crate) enum Rows {
     None,
     One(Row),
+    Two(Box<[Row; 2]>),
     Many(Box<Vec<Row>>),
 }
 
@@ -19,12 +21,15 @@ impl Rows {
     pub(crate) fn of(alloc: Global, mut rows: Vec<Row>) -> Result<Rows, AllocError>
         ensures { IfOk result (λ r. rows_in r ≡ rows.items) }
     {
-        if rows.len() > 1 {
+        if rows.len() > 2 {
             return Ok(Rows::Many(Box::new(alloc, rows)?));
         }
+        let Some(last) = rows.pop() else {
+            return Ok(Rows::None);
+        };
         match rows.pop() {
-            Some(row) => Ok(Rows::One(row)),
-            None => Ok(Rows::None),
+            Some(first) => Ok(Rows::Two(Box::new(alloc, [first, last])?)),
+            None => Ok(Rows::One(last)),
         }
     }
 
@@ -36,6 +41,7 @@ impl Rows {
         match self {
             Rows::None => &[],
             Rows::One(row) => slice::from_ref(row),
+            Rows::Two(rows) => rows.as_slice(),
             Rows::Many(rows) => rows.as_slice(),
         }
     }
@@ -47,6 +53,10 @@ impl Rows {
         match self.as_slice() {
             [] => Ok(Rows::None),
             [row] => Ok(Rows::One(row.try_clone(alloc)?)),
+            [first, last] => {
+                let rows = [first.try_clone(alloc)?, last.try_clone(alloc)?];
+                Ok(Rows::Two(Box::new(alloc, rows)?))
+            }
             rows => Ok(Rows::Many(Box::new(alloc, copies(alloc, rows)?)?)),
         }
     }
@@ -64,10 +74,18 @@ impl Rows {
                 *self = Rows::One(row);
                 Ok(())
             }
-            Rows::One(_) => {
-                let mut rows = Box::new(alloc, Vec::with_capacity(alloc, 4)?)?;
-                if let Rows::One(first) = mem::replace(self, Rows::None) {
+            Rows::One(other) => {
+                let other = other.try_clone(alloc)?;
+                let rows = if at == 0 { [row, other] } else { [other, row] };
+                *self = Rows::Two(Box::new(alloc, rows)?);
+                Ok(())
+            }
+            Rows::Two(_) => {
+                let mut rows = Box::new(alloc, Vec::with_capacity(alloc, 3)?)?;
+                if let Rows::Two(others) = mem::replace(self, Rows::None) {
+                    let (first, last) = parted(others);
                     rows.push_reserved(first);
+                    rows.push_reserved(last);
                 }
                 rows.insert(at, row)?;
                 *self = Rows::Many(rows);
@@ -92,9 +110,23 @@ impl Rows {
         match self {
             Rows::None => {}
             Rows::One(_) => *self = Rows::None,
+            Rows::Two(_) => {
+                if let Rows::Two(rows) = mem::replace(self, Rows::None) {
+                    let (first, last) = parted(rows);
+                    *self = Rows::One(if at == 0 { last } else { first });
+                }
+            }
             Rows::Many(rows) => {
                 rows.remove(at);
             }
         }
     }
+}
+
+/// Both rows, moved out of their place.
+pub(crate) fn parted(rows: Box<[Row; 2]>) -> (Row, Row)
+    ensures { box_value rows ≡ result.0 ∷ result.1 ∷ [] }
+{
+    let [first, last] = Box::into_inner(rows);
+    (first, last)
 }
