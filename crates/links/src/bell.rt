@@ -2,7 +2,7 @@
 ghost use Rattle.std.specs.Prelude.{◌≡◌, not, ◌&&◌, true, false};
 ghost use Rattle.links.specs.Rings.{BellView, later, rang_for};
 
-use crate::look::look;
+use crate::look::{FOR_KEY, look};
 use std::marker::Model;
 use std::sync::atomic::{AtomicBool, Ordering};
 use std::sync::{Condvar, Mutex, Wait};
@@ -111,10 +111,10 @@ impl Bell {
     }
 
     /// Waits until the bell rings for this call, or there is an alarm that was not told. A ring of
-    /// an earlier call counts for none. It looks a few times before it sleeps. A session numbers
+    /// an earlier call counts for none. It looks some times before it sleeps. A session numbers
     /// its calls upwards.
     pub fn wait<R: Wait>(&self, rt: &R, call: u64) -> Woken {
-        look(&self.ready);
+        look(&self.ready, FOR_KEY);
         let mut heard = self
             .moved
             .wait_while(rt, self.heard.lock(rt), |heard| heard.is_quiet(call));

@@ -5,21 +5,25 @@ use std::sync::Wait;
 use std::sync::atomic::{AtomicBool, Ordering};
 use std::thread;
 
-/// How often a session looks for its reply. A look that gives way to nobody takes a quarter of a
-/// microsecond; a sleep and its wake take several.
-const SHORT: u32 = 32;
+/// How often a session looks for a reply, an acknowledgement or a start. A look that gives way to
+/// nobody takes a quarter to half a microsecond; a sleep and its wake take several.
+pub(crate) const FOR_REPLY: u32 = 32;
 
-/// How often a thread looks for messages to its domains, for which a session may wait behind
-/// several.
-const LONG: u32 = 128;
+/// How often a session looks for a key that is to be filled: up to five turns of domains, one after
+/// the other, stand behind it.
+pub(crate) const FOR_KEY: u32 = 128;
+
+/// How often a thread looks for messages to its domains: twice as often as a session for a key, so
+/// that it seldom sleeps meanwhile.
+const FOR_MESSAGES: u32 = 256;
 
 /// How often who has put a message gives way to a taker that is behind.
 const TURNS: u32 = 64;
 
-/// Looks until the flag is up, or a few times. It gives way after each look, since a store may have
+/// Looks until the flag is up, at most so many times. It gives way after each look, since a store may have
 /// more threads than a machine has processors: whoever has work then runs. It takes no lock.
-pub(crate) fn look(ready: &AtomicBool) {
-    for _ in 0..SHORT {
+pub(crate) fn look(ready: &AtomicBool, times: u32) {
+    for _ in 0..times {
         if ready.load(Ordering::SeqCst) {
             return;
         }
@@ -33,7 +37,7 @@ pub(crate) fn look(ready: &AtomicBool) {
 pub fn wait_until<R: Wait, F: Fn() -> bool>(rt: &R, moved: &EventCount, is_ready: F)
     requires { F.IsAlwaysCallable is_ready }
 {
-    for _ in 0..LONG {
+    for _ in 0..FOR_MESSAGES {
         if is_ready() {
             return;
         }

@@ -1,12 +1,12 @@
 //! The place where a session finds the reply to its call.
-use crate::look::look;
+use crate::look::{FOR_REPLY, look};
 use crate::stops::Stops;
 use std::sync::atomic::{AtomicBool, Ordering};
 use std::sync::{Condvar, Mutex, Wait};
 
 /// A place for one reply to one session that waits: a channel of one place whose senders never wait
 /// for it to be empty. It takes no memory. A reply that nobody took gives way to the next: a
-/// session tells by what a reply carries whether it is to its call. Who waits looks a few times
+/// session tells by what a reply carries whether it is to its call. Who waits looks some times
 /// before it sleeps. What comes no contract says.
 #[derive(Drop)]
 pub struct Mailbox<T: Drop> {
@@ -44,7 +44,7 @@ impl<T: Drop> Mailbox<T> {
     /// Waits for a reply and takes it. `None` where there is none and the domain that is to send it
     /// has stopped: what it sent before is taken first. Cost: one lock, beside the wait.
     pub fn wait<R: Wait>(&self, rt: &R, stops: &Stops, sender: usize) -> Option<T> {
-        look(&self.ready);
+        look(&self.ready, FOR_REPLY);
         let mut reply = self.moved.wait_while(rt, self.reply.lock(rt), |reply| {
             reply.is_none() && !stops.has(sender)
         });
@@ -54,7 +54,7 @@ impl<T: Drop> Mailbox<T> {
 
     /// Waits for a reply and takes it, whatever has stopped. Cost: one lock, beside the wait.
     pub fn receive<R: Wait>(&self, rt: &R) -> Option<T> {
-        look(&self.ready);
+        look(&self.ready, FOR_REPLY);
         let mut reply = self
             .moved
             .wait_while(rt, self.reply.lock(rt), |reply| reply.is_none());
