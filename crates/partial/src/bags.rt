@@ -28,8 +28,7 @@ impl Gather for Bag {
         Bag::apply(self, alloc, change)
     }
 
-    /// The bag of all rows of the pieces. Cost: for each row but those of the first piece, that of a
-    /// bag's `add`; none is copied.
+    /// The bag of all rows of the pieces. Cost: that of `Bag::append` for each piece.
     fn gather(alloc: Global, pieces: Vec<Bag>) -> Result<Bag, AllocError>
         ensures { IfOk result (λ e. e ≡ sum_of_bags pieces.items) }
     {

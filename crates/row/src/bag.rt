@@ -9,6 +9,7 @@ use crate::row::Row;
 use crate::rows::{Rows, parted};
 use std::alloc::{AllocError, Global};
 use std::marker::Model;
+use std::mem;
 
 /// A bag of rows, seen as the list of its rows in order, each as often as it is there. A bag
 /// that never had two rows takes no memory.
@@ -107,16 +108,25 @@ impl Bag {
         Ok(())
     }
 
-    /// Adds each row of the other, beside those that are there. Errors: memory only; then some are
-    /// added. Cost: constant where the bag is empty, else for each row that of `add`; none is copied.
-    pub fn append(&mut self, other: Bag) -> Result<(), AllocError>
+    /// Adds each row of the other, beside those that are there. Errors: memory only; then the bag may
+    /// lack rows of either. Cost: for each row of the shorter bag that of `add` to the longer, whose
+    /// list grows once at most; none is copied but the only row of a bag that gets its second.
+    pub fn append(&mut self, mut other: Bag) -> Result<(), AllocError>
         ensures counts { OnOk result ((z : Cells) → times row_cmp z self.new
             ≡ times row_cmp z self.old + times row_cmp z other) }
     {
-        if self.is_empty() {
-            *self = other;
-            return Ok(());
+        if self.len() < other.len() {
+            mem::swap(self, &mut other);
         }
+        self.rows.reserve(other.len())?;
+        self.add_all(other)
+    }
+
+    // Adds each row of the other.
+    fn add_all(&mut self, other: Bag) -> Result<(), AllocError>
+        ensures counts { OnOk result ((z : Cells) → times row_cmp z self.new
+            ≡ times row_cmp z self.old + times row_cmp z other) }
+    {
         let Bag { alloc: _, rows } = other;
         match rows {
             Rows::None => {}

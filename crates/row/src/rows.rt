@@ -102,6 +102,17 @@ impl Rows {
         }
     }
 
+    /// Room for so many rows more, where they are in a list. Errors: memory only. Either way the rows
+    /// stay. Cost: where there is too little room a move of the rows.
+    pub(crate) fn reserve(&mut self, more: usize) -> Result<(), AllocError>
+        ensures { rows_in self.new ≡ rows_in self.old }
+    {
+        match self {
+            Rows::None | Rows::One(_) | Rows::Two(_) => Ok(()),
+            Rows::Many(rows) => rows.reserve_exact(more),
+        }
+    }
+
     /// Takes away the row in a place. Takes no memory. Cost: a move of the rows behind.
     pub(crate) fn remove(&mut self, at: usize)
         requires { at < length (rows_in self.old) }

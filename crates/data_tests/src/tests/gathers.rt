@@ -190,6 +190,17 @@ const PIECES: (usize, &[Step]) = (
     ],
 );
 
+/// The longer of what is there and a piece takes the rows of the other.
+const LENGTHS: (usize, &[Step]) = (
+    3,
+    &[
+        (Call::Begin("7"), "begins", ""),
+        (Call::Piece("7", 0, "1"), "", ""),
+        (Call::Piece("7", 1, "2;3;4;5"), "", ""),
+        (Call::Piece("7", 2, "0;6;7"), "fills", "7: 0 1 2 3 4 5 6 7;"),
+    ],
+);
+
 /// Keys do not meet, and stay in the order of filling, whatever is changed.
 const KEYS: (usize, &[Step]) = (
     1,
@@ -231,7 +242,10 @@ fn is_right(alloc: Global, bags: &mut Bags, step: &Step) -> Result<bool, AllocEr
 
 #[test]
 fn keys_are_gathered(rt: HostRuntime) -> Result<(), Fail> {
-    for (at, (sources, steps)) in [HOLES, SUM, CHANGES, PIECES, KEYS].iter().enumerate() {
+    for (at, (sources, steps)) in [HOLES, SUM, CHANGES, PIECES, LENGTHS, KEYS]
+        .iter()
+        .enumerate()
+    {
         let wrong = first_wrong(rt.alloc(), *sources, steps)?;
         assert!(rt; wrong.is_none(), "table {at}: {wrong:?}");
     }

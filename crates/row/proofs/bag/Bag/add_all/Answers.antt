@@ -3,7 +3,7 @@ use Rattle.row.specs.Cells.{row_cmp}
 use Rattle.row.specs.Bags.{times, inserted}
 use Rattle.row.specs.Held.{rows_in}
 use Rattle.row.proofs.BagLemmas.{times-inserted}
-use Rattle.row.proofs.bag.Bag.append.Goals as goal
+use Rattle.row.proofs.bag.Bag.add_all.Goals as goal
 
 pub returns-in_ok-add-in-One : goal.returns-in_ok-add-in-One
 returns-in_ok-add-in-One c = record {
