@@ -1,5 +1,5 @@
 -- What is on one edge changes, or one comes.
-use Rattle.std.proofs.Common.{◌≡◌, ℕ, zero, suc, ◌+◌, ◌<◌, ◌≤◌, List, [], ◌∷◌, ◌++◌, length, take, get_or, slice_index_or, slice_set, refl, ap, ◌∙◌, subst, arith}
+use Rattle.std.proofs.Common.{◌≡◌, ◌==◌, true, ℕ, zero, suc, ◌+◌, ◌<◌, ◌≤◌, List, [], ◌∷◌, ◌++◌, length, take, get_or, slice_index_or, slice_set, refl, ap, ◌∙◌, subst, arith, rules}
 use Rattle.std.proofs.lemmas.List.{take_all}
 use Rattle.row.specs.Bags.{Each}
 use Rattle.packet.specs.Messages.{none_of}
@@ -17,6 +17,16 @@ module _ {P : Type 0} where
   packets_same [] i d e lt is = refl
   packets_same (x ∷ xs) zero d e lt is = ap (λ p. p ∷ packets_on xs) is
   packets_same (x ∷ xs) (suc i) d e lt is = ap (λ ps. x.packets ∷ ps) (packets_same xs i d e (omega (arith, lt)) is)
+
+  none_here : (ps : List P) → (length ps == 0) ≡ true → ps ≡ []
+  none_here [] is = refl
+  none_here (p ∷ ps) is = absurd (search rules)
+
+  -- an edge with nothing on it loses nothing
+  pub clear_stays : (edges : List (EdgeView P)) (i : ℕ) → (length (slice_index_or edges i no_edge).packets == 0) ≡ true → packets_on edges ≡ slice_set (packets_on edges) i []
+  clear_stays [] i is = refl
+  clear_stays (x ∷ xs) zero is = ap (λ p. p ∷ packets_on xs) (none_here x.packets is)
+  clear_stays (x ∷ xs) (suc i) is = ap (λ ps. x.packets ∷ ps) (clear_stays xs i is)
 
   -- what holds of the first edges, and of the next one now
   module _ (Q : EdgeView P → Type 0) where

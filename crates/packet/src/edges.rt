@@ -1,5 +1,5 @@
 //! What is put out on edges.
-ghost use Rattle.std.specs.Prelude.{◌≡◌, ◌<◌, [], ◌∷◌, map, length, slice_get, slice_index_or, slice_set, IfOk, OnOk, OnErr, IsOkUnless};
+ghost use Rattle.std.specs.Prelude.{◌≡◌, ◌==◌, ◌<◌, [], ◌∷◌, true, map, length, slice_get, slice_index_or, slice_set, IfOk, OnOk, OnErr, IsOkUnless};
 ghost use Rattle.std.specs.Option.{option_map};
 ghost use Rattle.packet.specs.{Messages.none_of, Messages.to_one, Outboxes.HaveRoom, Outboxes.no_edge, Outboxes.packets_on, Outboxes.with_one, Outboxes.with_packet, Outboxes.with_packet_on};
 
@@ -134,6 +134,18 @@ impl<P: Drop> Edges<P> {
         match self.edges.get(edge) {
             Some(edge) => edge.packets.first(),
             None => None,
+        }
+    }
+
+    /// Whether nothing is on an edge, or there is no such edge. Constant time.
+    pub fn is_clear(&self, edge: usize) -> bool
+        ensures clear { result ≡ (length (slice_index_or self.now edge no_edge).packets == 0) }
+        ensures same { result ≡ true
+            → packets_on self.now ≡ slice_set (packets_on self.now) edge [] }
+    {
+        match self.edges.get(edge) {
+            Some(edge) => edge.packets.is_empty(),
+            None => true,
         }
     }
 

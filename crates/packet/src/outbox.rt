@@ -1,5 +1,5 @@
 //! What a base domain puts out.
-ghost use Rattle.std.specs.Prelude.{◌≡◌, ◌<◌, [], ◌∷◌, None, Some, map, length, slice_index_or, slice_set, IfOk, OnOk, OnErr, IsOkUnless};
+ghost use Rattle.std.specs.Prelude.{◌≡◌, ◌==◌, ◌<◌, [], ◌∷◌, true, None, Some, map, length, slice_index_or, slice_set, IfOk, OnOk, OnErr, IsOkUnless};
 ghost use Rattle.packet.specs.{Messages.none_of, Messages.to_one, Outboxes.IsClear, Outboxes.HaveRoom, Outboxes.no_edge, Outboxes.packets_on};
 
 use crate::answer::Answer;
@@ -86,6 +86,16 @@ impl<F: Fronts> Outbox<F> {
             Some(packet) => packet.has_changes(),
             None => false,
         }
+    }
+
+    /// Whether there is no packet to a stage shard, as `Edges::is_clear`.
+    pub fn is_clear(&self, stage: usize) -> bool
+        ensures clear { result
+            ≡ (length (slice_index_or self.now.edges stage no_edge).packets == 0) }
+        ensures same { result ≡ true
+            → packets_on self.now.edges ≡ slice_set (packets_on self.now.edges) stage [] }
+    {
+        self.edges.is_clear(stage)
     }
 
     /// All packets to a stage shard, in order, moved out of the outbox. It takes no memory.

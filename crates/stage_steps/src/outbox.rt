@@ -1,5 +1,5 @@
 //! What a stage domain puts out.
-ghost use Rattle.std.specs.Prelude.{◌≡◌, ◌<◌, ◌++◌, [], length, map, slice_index_or, slice_set, IfOk, OnOk};
+ghost use Rattle.std.specs.Prelude.{◌≡◌, ◌==◌, ◌<◌, ◌++◌, [], true, length, map, slice_index_or, slice_set, IfOk, OnOk};
 ghost use Rattle.packet.specs.Outboxes.{no_edge, packets_on, with_one};
 ghost use Rattle.protocol.specs.StageSteps.{append_each};
 ghost use Rattle.stage_steps.specs.{Told.perhaps, Outboxes.IsSilent};
@@ -61,6 +61,26 @@ impl<F: Fronts> StageOutbox<F> {
             Some(packet) => packet.has_changes(),
             None => false,
         }
+    }
+
+    /// Whether there is no packet to a view shard, as `Edges::is_clear`.
+    pub fn has_no_packets(&self, reader: usize) -> bool
+        ensures clear { result
+            ≡ (length (slice_index_or self.now.packets reader no_edge).packets == 0) }
+        ensures same { result ≡ true
+            → packets_on self.now.packets ≡ slice_set (packets_on self.now.packets) reader [] }
+    {
+        self.packets.is_clear(reader)
+    }
+
+    /// Whether there is no request to a source, as `Edges::is_clear`.
+    pub fn has_no_requests(&self, source: usize) -> bool
+        ensures clear { result
+            ≡ (length (slice_index_or self.now.requests source no_edge).packets == 0) }
+        ensures same { result ≡ true
+            → packets_on self.now.requests ≡ slice_set (packets_on self.now.requests) source [] }
+    {
+        self.requests.is_clear(source)
     }
 
     /// The packets to a view shard, in order, moved out of it. It takes no memory.

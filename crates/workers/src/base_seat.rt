@@ -243,6 +243,9 @@ fn send_to<J: Naming, R: Wait>(
     ensures edges { length out.new.edges ≡ length out.old.edges }
     ensures reply { out.new.reply ≡ out.old.reply }
 {
+    if out.is_clear(stage) {
+        return sent;
+    }
     let (rt, routes) = (worker.rt, worker.routes);
     let mut packets = out.take(worker.alloc, stage);
     let sent = match source {

@@ -215,6 +215,9 @@ fn send_to<J: Naming, R: Wait>(
     ensures rest { out.new ≡ record out.old { packets = out.new.packets } }
     ensures edges { length out.new.packets ≡ length out.old.packets }
 {
+    if out.has_no_packets(reader) {
+        return sent;
+    }
     let (rt, routes, stage) = (worker.rt, worker.routes, worker.place);
     let mut packets = out.take_packets(worker.alloc, reader);
     let sent = send_each(sent, &mut packets, |packet| {
@@ -237,14 +240,36 @@ fn send_requests<J: Naming, R: Wait>(
     ensures rest { out.new ≡ record out.old { requests = out.new.requests } }
     ensures edges { length out.new.requests ≡ length out.old.requests }
 {
-    let (rt, routes, stage) = (worker.rt, worker.routes, worker.place);
     for source in 0..out.sources() {
-        let mut requests = out.take_requests(worker.alloc, source);
-        sent = send_each(sent, &mut requests, |request| {
-            routes.stage_to_source(rt, stage, source, request)
-        });
-        requests.clear();
-        out.keep_request_room(source, requests);
+        sent = send_requests_to(worker, out, source, sent);
     }
+    sent
+}
+
+// Sends the requests to a source, in order, where all went well so far, and leaves none. Errors: that
+// of before, or a request was refused; none is sent after it.
+fn send_requests_to<J: Naming, R: Wait>(
+    worker: &Worker<J, R>,
+    out: &mut StageOutbox<Front<J>>,
+    source: usize,
+    sent: Result<(), Refused>,
+) -> Result<(), Refused>
+    requires shard { worker.now.place < J.plan.stages }
+    requires source { source < length out.old.requests }
+    ensures none { packets_on out.new.requests
+        ≡ slice_set (packets_on out.old.requests) source [] }
+    ensures rest { out.new ≡ record out.old { requests = out.new.requests } }
+    ensures edges { length out.new.requests ≡ length out.old.requests }
+{
+    if out.has_no_requests(source) {
+        return sent;
+    }
+    let (rt, routes, stage) = (worker.rt, worker.routes, worker.place);
+    let mut requests = out.take_requests(worker.alloc, source);
+    let sent = send_each(sent, &mut requests, |request| {
+        routes.stage_to_source(rt, stage, source, request)
+    });
+    requests.clear();
+    out.keep_request_room(source, requests);
     sent
 }
