@@ -1,6 +1,6 @@
 -- The order of the program's values keeps the laws, and equal ones are hashed alike. No public clause
 -- cites it.
-use Rattle.std.specs.Prelude.{◌≡◌, Bool}
+use Rattle.std.specs.Prelude.{◌≡◌, Bool, cond}
 use Rattle.std.specs.Bool.{IsTrue}
 use Rattle.std.specs.Hash as fed
 use Rattle.std.specs.declared.cmp.Ordering.{Ordering}
@@ -10,6 +10,7 @@ use Rattle.std.specs.Cmp.{IsTotalOrder, IsEquivalence, IsPartialEquivalence, IsP
 use Rattle.std.proofs.Common.{ap, refl}
 use Rattle.row.specs.declared.value.Value.{Value}
 use Rattle.row.specs.Cells.{Datum, int, text, datum_of, datum_cmp}
+use Rattle.row.specs.Numbers.{is_small}
 use Rattle.row.specs.CellOrder.{datum_total, datum_same}
 
 -- as their cells stand
@@ -38,9 +39,9 @@ pub value_partial_laws : IsPartialOrder value_eq (as_partial_cmp value_cmp)
 unfolding value_eq
 value_partial_laws = partial_order_from_agreeing_total value_cmp value_total (λ x y. refl) (λ x y. refl)
 
--- what is hashed of a cell: a number as one of 128 bits, a text as a text
+-- what is hashed of a cell: a number of 64 bits as such a one, any other as one of 128, a text as a text
 abbrev pub writes_of : Datum → fed.HashWrites
-writes_of (int n) = fed.i128 n
+writes_of (int n) = cond (is_small n) (fed.i64 n) (fed.i128 n)
 writes_of (text bytes) = fed.str bytes
 
 abbrev pub value_writes : Value → fed.HashWrites
