@@ -58,6 +58,16 @@ impl Bag {
         Ok(Bag { alloc, rows })
     }
 
+    /// The bag of these rows, which are in order. Errors: memory only. Constant time: it looks at none
+    /// of them.
+    pub fn of_ordered(alloc: Global, rows: Vec<Row>) -> Result<Bag, AllocError>
+        requires { IsAscending row_cmp rows.items }
+        ensures { IfOk result (λ b. b ≡ rows.items) }
+    {
+        let rows = Rows::of(alloc, rows)?;
+        Ok(Bag { alloc, rows })
+    }
+
     /// The rows in order, each as often as it is in the bag. Constant time.
     pub fn rows(&self) -> &[Row]
         ensures rows { result.now ≡ self.now }

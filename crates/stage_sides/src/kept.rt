@@ -1,6 +1,7 @@
 //! The records that a side takes.
-ghost use Rattle.std.specs.Prelude.{◌≡◌, ◌<◌, length};
-ghost use Rattle.stage_sides.specs.Kept.{is_kept, kept_at, kept_by, kept_rows};
+ghost use Rattle.std.specs.Prelude.{◌≡◌, ◌<◌, filter, length};
+ghost use Rattle.plan.specs.Outputs.{pass};
+ghost use Rattle.stage_sides.specs.Kept.{AreOfRight, is_kept, kept_at, kept_by, kept_rows};
 
 use ops::side::Side;
 use plan::plan::Plan;
@@ -26,20 +27,32 @@ pub(crate) fn kept(plan: &Plan, side: Side, mut records: Vec<Record>) -> Vec<Rec
     }
 }
 
-/// Of these rows those of the right side's table for which its conditions hold, in their order;
-/// none where there is no right side; the list keeps no room for others. Takes no memory. Cost: a look
-/// at each cell of each row, and where some are dropped a move of the others.
+/// Of these rows of the right side's table those for which its conditions hold, in their order; none
+/// where there is no right side; the list keeps no room for others. Takes no memory. Cost: a look at
+/// each row where the side has conditions, and where some are dropped a move of the others.
 pub(crate) fn kept_rows(plan: &Plan, mut rows: Vec<Row>) -> Vec<Row>
+    requires { AreOfRight plan.now plan.now.right rows.items }
     ensures { result.items ≡ kept_rows plan.now rows.items }
 {
     plan.keeps_profile();
     match plan.right() {
-        Some(side) => {
-            rows.retain(|row| is_kept(plan, side, row));
-            rows.shrink_to_fit();
+        Some(side) => passing(side, rows),
+        None => {
+            rows.clear();
+            rows
         }
-        None => rows.clear(),
     }
+}
+
+/// Those for which the conditions of the side hold.
+fn passing(side: &SidePlan, mut rows: Vec<Row>) -> Vec<Row>
+    ensures { result.items ≡ filter (pass side.now.conditions) rows.items }
+{
+    if side.conditions().is_empty() {
+        return rows;
+    }
+    rows.retain(|row| side.pass(row));
+    rows.shrink_to_fit();
     rows
 }
 

@@ -139,6 +139,7 @@ pub(crate) fn give_in(
 ) -> (Stage<HeldSide>, Result<(), AllocError>)
     requires keyed { Each (λ r. has stage.right.column (datum_of key.now) r ≡ true) rows.items }
     requires fits { Each (λ r. fits_64_bits stage.right.aggregate r ≡ true) rows.items }
+    requires in_order { IsAscending row_cmp rows.items }
     ensures others { result.0 ≡ record stage { right = result.0.right } }
     ensures still { IsStill stage.right result.0.right }
     ensures keys { OnOk result.1 (keys_in result.0.right

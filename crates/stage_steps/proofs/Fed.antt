@@ -4,13 +4,13 @@ use Rattle.std.specs.List.{list_all}
 use Rattle.std.specs.Option.{option_map}
 use Rattle.std.proofs.lemmas.Bool.Decides.{nat_tests}
 use Rattle.std.proofs.lemmas.Option.{slice_get-map}
-use Rattle.row.specs.Bags.{Each, IsAlike, sorted}
+use Rattle.row.specs.Bags.{Each, IsAlike, IsAscending, sorted}
 use Rattle.row.specs.Cells.{Cells, Datum, datum_of, has, has_shard, row_cmp}
 use Rattle.row.specs.CellOrder.{row_total, row_same}
 use Rattle.row.specs.declared.value.Value.{Value}
 use Rattle.row.proofs.Alike.{sorted_alike, filter_alike}
-use Rattle.row.proofs.BagLemmas.{times-sorted}
-use Rattle.row.proofs.Filtered.{Each-filtered}
+use Rattle.row.proofs.BagLemmas.{IsAscending-sorted, times-sorted}
+use Rattle.row.proofs.Filtered.{Each-filter, Each-filtered}
 use Rattle.plan.specs.Facts.{Facts}
 use Rattle.plan.specs.Kinds.{is_row}
 use Rattle.plan.specs.Layouts.{Layout, SideLayout, table_at}
@@ -31,7 +31,7 @@ use Rattle.protocol.specs.Stages.{Done, Stage}
 use Rattle.protocol.specs.StageSteps.{piece_given, piece_taken, quiet}
 use Rattle.right_rows.specs.Rights.{keys_in, state_in}
 use Rattle.stage_sides.specs.Held.{Held}
-use Rattle.stage_sides.specs.Kept.{is_kept, kept_rows, rows_kept}
+use Rattle.stage_sides.specs.Kept.{AreOfRight, is_kept, kept_rows, rows_kept}
 use Rattle.stage_steps.specs.Outboxes.{AreEdges, OutboxView}
 use Rattle.stage_steps.specs.Shards.{HoldsRight, IsFrom, IsPut, IsWhole, Shard, stage_of}
 use Rattle.stage_steps.proofs.Fronts.{all_of, drop_get, front_at, right_is, right_room, right_table, share_of}
@@ -110,6 +110,19 @@ module _ (x : Shard) (facts : Facts x.plan) (whole : IsWhole x) (j : ℕ) (k : B
       ∙ (ap (λ o. sorted row_cmp (filter (has (column_of x.plan right_tag) piece.key) (rows_for x.plan x.shard o k.from))) of_side
       ∙ ap (λ (o : Option SideLayout). sorted row_cmp (filter (has (right_column o) piece.key) (stage_rows x.plan x.shard side k.from))) room.1))
 
+  fit : list_all (fits (table_at x.plan side.table)) k.from ≡ true
+  fit =
+      let table = ap (table_at x.plan) (right_table x.plan x.shard (entries_of x.line) k.from k.from [] facts whole.fronts side room.1 i room.2 at_i front_is (record { each = λ z. refl })) in
+      subst (λ t. list_all (fits t) k.from ≡ true) table (all_of (fits (layout_of x.plan (source_at x.plan (n + i)))) k.from front_is.fitting)
+
+  abbrev keyed_rows : List Cells
+  keyed_rows = filter (has side.key piece.key) (stage_rows x.plan x.shard side k.from)
+
+  of_table : Each (λ r. is_row (table_at x.plan side.table).columns r ≡ true) (sorted row_cmp keyed_rows)
+  of_table =
+      let row : Cells → Type 0 = λ r. is_row (table_at x.plan side.table).columns r ≡ true in
+      each_sorted row keyed_rows (Each-filter row (has side.key piece.key) (stage_rows x.plan x.shard side k.from) (are_rows x.plan x.shard side piece.key k.from fit))
+
   -- what a call of `give` asks, and what it makes of the shard
   module _ (rows : List Cells) (d : Datum) (key_is : d ≡ piece.key) (are : rows ≡ piece.rows) where
     pub fed_keyed : Each (λ r. has (right_key x.rows.plan.right) d r ≡ true) rows
@@ -119,10 +132,16 @@ module _ (x : Shard) (facts : Facts x.plan) (whole : IsWhole x) (j : ℕ) (k : B
         let named = subst (λ d. Each (λ r. has side.key d r ≡ true) rows) (sym key_is) here in
         subst (λ (q : Layout). Each (λ r. has (right_key q.right) d r ≡ true) rows) (sym whole.rows.plan) (subst (λ (o : Option SideLayout). Each (λ r. has (right_key o) d r ≡ true) rows) (sym room.1) named)
 
+    pub fed_rows : AreOfRight x.rows.plan x.rows.plan.right rows
+    fed_rows =
+        let here = subst (λ rs. AreOfRight x.plan (Some side) rs) (sym (are ∙ rows_are)) of_table in
+        subst (λ (q : Layout). AreOfRight q q.right rows) (sym whole.rows.plan) (subst (λ (o : Option SideLayout). AreOfRight x.plan o rows) (sym room.1) here)
+
+    pub fed_order : IsAscending row_cmp rows
+    fed_order = subst (IsAscending row_cmp) (sym (are ∙ rows_are)) (IsAscending-sorted row_cmp row_total keyed_rows)
+
     shares_at : (v : Datum) → d ≡ v → slice_get (right_shares x.plan x.shard side v fronts) i ≡ Some (sorted row_cmp (kept_rows x.rows.plan rows))
     shares_at v is =
-        let table = ap (table_at x.plan) (right_table x.plan x.shard (entries_of x.line) k.from k.from [] facts whole.fronts side room.1 i room.2 at_i front_is (record { each = λ z. refl })) in
-        let fit : list_all (fits (table_at x.plan side.table)) k.from ≡ true = subst (λ t. list_all (fits t) k.from ≡ true) table (all_of (fits (layout_of x.plan (source_at x.plan (n + i)))) k.from front_is.fitting) in
         let own_share = kept_share x.plan x.shard side piece.key k.from fit in
         let kept : sorted row_cmp (kept_rows x.rows.plan rows) ≡ share_of x.plan x.shard side v k.from =
         ap (λ (q : Layout). sorted row_cmp (kept_rows q rows)) whole.rows.plan

@@ -16,7 +16,7 @@ use Rattle.stage_sides.specs.Kept.{kept_rows}
 use Rattle.stage_steps.proofs.Puts.{after}
 use Rattle.stage_steps.specs.Outboxes.{AreEdges}
 use Rattle.stage_steps.specs.Shards.{IsFrom, IsPut, IsWhole, Shard}
-use Rattle.stage_steps.proofs.Fed.{fed_keyed, fed_whole, put_fed, put_unfed}
+use Rattle.stage_steps.proofs.Fed.{fed_keyed, fed_order, fed_rows, fed_whole, put_fed, put_unfed}
 use Rattle.stage_steps.proofs.shard.StageShard.take_piece.Goals as goal
 
 pub give-requires : goal.give-requires
@@ -30,7 +30,11 @@ give-requires g c =
     let both : (not (is_left x.plan c.args.source) && (c.in-Some.piece.tag == right_tag)) ≡ true = ap (λ t. not (is_left c.self.inside.plan.now c.args.source) && (t == right_tag)) (sym c.tag.ensures) ∙ (sym c.is_of_right_side.ensures ∙ c.if-not-is_of_right_side.false) in
     let apart : is_left c.self.inside.plan.now c.args.source ≡ false = not_true (is_left c.self.inside.plan.now c.args.source) (and_left (not (is_left c.self.inside.plan.now c.args.source)) (c.in-Some.piece.tag == right_tag) both) in
     let tag = eqb-true c.in-Some.piece.tag right_tag (and_right (not (is_left c.self.inside.plan.now c.args.source)) (c.in-Some.piece.tag == right_tag) both) in
-    record { keyed = fed_keyed x c.keeps_profile.ensures whole c.args.source c.args.packet from at apart c.in-Some.piece own tag c.into_parts-key.result.1.items (datum_of c.into_parts-key.result.0) c.into_parts-key.ensures.key c.into_parts-key.ensures.rows }
+    record {
+      keyed = fed_keyed x c.keeps_profile.ensures whole c.args.source c.args.packet from at apart c.in-Some.piece own tag c.into_parts-key.result.1.items (datum_of c.into_parts-key.result.0) c.into_parts-key.ensures.key c.into_parts-key.ensures.rows;
+      of = fed_rows x c.keeps_profile.ensures whole c.args.source c.args.packet from at apart c.in-Some.piece own tag c.into_parts-key.result.1.items (datum_of c.into_parts-key.result.0) c.into_parts-key.ensures.key c.into_parts-key.ensures.rows;
+      in_order = fed_order x c.keeps_profile.ensures whole c.args.source c.args.packet from at apart c.in-Some.piece own tag c.into_parts-key.result.1.items (datum_of c.into_parts-key.result.0) c.into_parts-key.ensures.key c.into_parts-key.ensures.rows;
+    }
 
 pub returns-clause-whole : goal.returns-clause-whole
 returns-clause-whole g c =
