@@ -1,5 +1,5 @@
 //! The inbox of a domain.
-ghost use Rattle.std.specs.Prelude.{◌≡◌, ◌⊎◌, ◌<◌, ◌≤◌, length, true, IfOk, IfErr, IsErrAnd};
+ghost use Rattle.std.specs.Prelude.{◌≡◌, ◌⊎◌, ◌<◌, ◌≤◌, length, true, false, IfOk, IfErr, IsErrAnd};
 ghost use Rattle.links.specs.Queued.{holds_any};
 
 use crate::line::Line;
@@ -187,6 +187,19 @@ impl<T: Drop> Inbox<T> {
         if !taken.is_empty() {
             return Taking::Taken;
         }
+        self.refill(rt, taken)
+    }
+
+    /// The same for queues of the caller that hold no message. Cost: a look, and one lock where the
+    /// inbox is ready.
+    pub fn refill<R: Wait>(&self, rt: &R, taken: &mut Queues<T>) -> Taking
+        requires count { length taken.old ≡ self.now }
+        requires none { holds_any taken.old ≡ false }
+        ensures count { length taken.new ≡ length taken.old }
+        ensures taken { result ≡ Taking.Taken → holds_any taken.new ≡ true }
+        ensures empty { result ≡ Taking.Empty → taken.new ≡ taken.old }
+        ensures closed { result ≡ Taking.Closed → taken.new ≡ taken.old }
+    {
         if !self.is_ready() {
             return Taking::Empty;
         }

@@ -12,20 +12,27 @@ use std::sync::Wait;
 /// The messages that were taken from the inbox of a domain and are not begun, and the number of
 /// its turn. It begins with the edge whose message came last, since a packet with changes takes
 /// longer to make than one that only says how far a log has come; it goes on with an edge until no
-/// message of it is left, then with the next edge; more are taken where none is left on any.
+/// message of it is left, then with the next edge; more are taken where none is left on any. It notes
+/// when none is left, so that it goes through the edges, one for each session among them, only where
+/// messages have come.
 #[derive(Drop)]
 pub struct Turns<T: Drop> {
     taken: Queues<T>,
     edge: usize,
     turn: u64,
+    // It is known that none is left.
+    drained: bool,
 }
 
 impl<T: Drop> Model for Turns<T> {
-    ghost use Rattle.links.specs.Turns.{TurnsView};
+    ghost use Rattle.std.specs.Prelude.{◌≡◌, true, false};
+    ghost use Rattle.links.specs.{Queued.holds_any, Turns.TurnsView};
 
     ghost Value = { TurnsView T };
 
     ghost view = { λ t. record { waiting = t.taken; edge = t.edge; turn = t.turn } };
+
+    ghost invariant = { λ t. t.drained ≡ true → holds_any t.taken ≡ false };
 }
 
 impl<T: Drop> Turns<T> {
@@ -42,6 +49,7 @@ impl<T: Drop> Turns<T> {
             taken: Queues::new(alloc, edges)?,
             edge: 0,
             turn: 0,
+            drained: false,
         })
     }
 
@@ -54,7 +62,8 @@ impl<T: Drop> Turns<T> {
     }
 
     /// Takes what waits in the inbox, where none is left of what was taken before. It waits for
-    /// nobody, and takes no memory. Cost: that of `Inbox::take_all`.
+    /// nobody, and takes no memory. Cost: where it is known that none is left a look, and that of
+    /// `Inbox::refill` where messages have come; else that of `Inbox::take_all`.
     pub fn take<R: Wait>(&mut self, rt: &R, inbox: &Inbox<T>) -> Taking
         requires edges { length self.old.waiting ≡ inbox.now }
         ensures taken { result ≡ Taking.Taken → holds_any self.new.waiting ≡ true }
@@ -67,12 +76,21 @@ impl<T: Drop> Turns<T> {
         ensures edges { length self.new.waiting ≡ length self.old.waiting }
     {
         self.edge = 0;
-        inbox.take_all(rt, &mut self.taken)
+        let taking = if self.drained {
+            inbox.refill(rt, &mut self.taken)
+        } else {
+            inbox.take_all(rt, &mut self.taken)
+        };
+        self.drained = match taking {
+            Taking::Taken => false,
+            Taking::Empty | Taking::Closed => true,
+        };
+        taking
     }
 
     /// The next message that was taken: the first of the edge on which one came last, while that has
     /// any, else of the first edge that has one, from the edge on that it is at. Takes no memory.
-    /// Cost: constant, spread over many.
+    /// Cost: constant, spread over many, and linear in the edges where the edge has none left.
     pub fn pop(&mut self) -> Option<T>
         ensures first { IfSome result (λ m. IsFirst self.old.waiting m self.new.waiting) }
         ensures counts { IfSome result (λ _. self.new.turn ≡ min (self.old.turn + 1) u64.MAX) }
@@ -80,6 +98,9 @@ impl<T: Drop> Turns<T> {
         ensures none { IfNone result (self.old.edge ≡ 0 → holds_any self.old.waiting ≡ false) }
         ensures edges { length self.new.waiting ≡ length self.old.waiting }
     {
+        if self.drained {
+            return None;
+        }
         let newest = self.taken.newest();
         if self.taken.len(newest) > 0 {
             return self.begin(newest);
@@ -90,6 +111,7 @@ impl<T: Drop> Turns<T> {
                 return self.begin(edge);
             }
         }
+        self.drained = self.edge == 0;
         None
     }
 
@@ -103,6 +125,7 @@ impl<T: Drop> Turns<T> {
         } }
     {
         self.turn = self.turn.saturating_add(1);
+        self.drained = false;
         self.taken.pop(edge)
     }
 }
