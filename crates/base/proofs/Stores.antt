@@ -75,8 +75,8 @@ absent_lookup key v d es keyed own h = step (lookup (equal v) es) (sym (held_sor
     step (Some row) h = cc
 
 -- the cell that was read is the row's key
-pub own_cell : (row : Cells) (key : ℕ) (v : Value) → key < length row → slice_get row key ≡ Some (datum_of v) → datum_of v ≡ cell_at row key
-own_cell row key v small read = let h : Some (datum_of v) ≡ Some (cell_at row key) = sym read ∙ cell_there row key small in cc
+pub own_cell : (row : Cells) (key : ℕ) (d : Datum) → key < length row → slice_get row key ≡ Some d → d ≡ cell_at row key
+own_cell row key d small read = let h : Some d ≡ Some (cell_at row key) = sym read ∙ cell_there row key small in cc
 
 -- a key that is held is found
 pub place_there : (key : ℕ) (v : Value) (d : Datum) (es : List (Value × Cells)) → AreKeyed key es → datum_of v ≡ d → is_held key (sorted row_cmp (values_of es)) d ≡ true

@@ -2,13 +2,14 @@
 ghost use Rattle.std.specs.Prelude.{◌≡◌, ◌≢◌, ◌+◌, ◌++◌, ◌∷◌, [], List, filter, ◌<◌, ◌↔◌, true, false, IsTrue, IsOk, OnOk, IfOk, IfErr, IfSome, OnErr, IsOkUnless, Some, None, is_some, length};
 ghost use Rattle.std.specs.List.Sorted.{IsPermutation};
 ghost use Rattle.std.specs.HashMap.{get, spare, IsUnique};
-ghost use Rattle.row.specs.{Bags.IsAscending, Cells.datum_of, Cells.cell_at, Cells.has, Cells.row_cmp, Changes.Turns, Groups.equal};
+ghost use Rattle.row.specs.{Bags.IsAscending, Cells.datum_of, Cells.cell_at, Cells.has, Cells.row_cmp, Changes.Turns, Groups.equal, Packed.datum_in};
 ghost use Rattle.model.specs.{Logs.Change, Logs.inserts, Logs.deletes, Logs.updates, Logs.is_held, Logs.key_of, Logs.rows_of, Refusals.full, Refusals.refusal, Entries.change_of};
 ghost use Rattle.base.specs.{Shards.Shard, Shards.IsAt, Shards.HasKey, Shards.HasRoom, Shards.adds_row, Shards.room_after, Shards.rows_with, Shards.rows_after, Shards.rows_changed, Shards.after_entry, Shards.refusal_of, Shards.verdict, Indexed.IsOf, Parts.found, Records.plus_of, Records.minus_of, Records.records_of, Records.records_at, Records.record_count};
 
 use crate::index::{Index, copies_in, expect_all, indexes_by, lose_all, ready_by, settle_all};
 use crate::part::Part;
 use model::entry::Entry;
+use row::cells::Cell;
 use row::grouped::Grouped;
 use row::record::{Record, Sign};
 use row::refused::Refused;
@@ -176,7 +177,8 @@ impl BaseShard {
         ensures only { IfSome result (λ r. filter (has self.now.key
             (key_of self.now.key (change_of entry.now))) self.now.rows ≡ r.now ∷ []) }
     {
-        self.rows.get(key_in(entry, self.key_column))
+        let key = key_in(entry, self.key_column);
+        self.rows.get(key.value())
     }
 
     /// What `check` says of the entry and, where it allows it, what the entry changes in the rows:
@@ -314,7 +316,7 @@ impl BaseShard {
         ensures front { (front : List Change) → IsAt self.old front → IsAt self.new front }
     {
         match entry {
-            Entry::Insert(row) => self.make_room(alloc, row.cell(self.key_column)),
+            Entry::Insert(row) => self.make_room(alloc, row.cell(self.key_column).value()),
             Entry::Delete(_) | Entry::Update(_) => Ok(()),
         }
     }
@@ -427,20 +429,22 @@ impl BaseShard {
         ensures { self.new ≡ rows_changed self.old (updates row) }
     {
         settle_all(&mut self.indexes, &row);
-        let place = self.rows.get_mut(row.cell(self.key_column)).unwrap();
+        let key = row.cell(self.key_column);
+        let place = self.rows.get_mut(key.value()).unwrap();
+        drop(key);
         let old = mem::replace(place, row);
         lose_all(&mut self.indexes, &old);
     }
 }
 
 /// The key of the entry's row, which is in this column.
-fn key_in(entry: &Entry, column: usize) -> &Value
+fn key_in(entry: &Entry, column: usize) -> Cell<'_>
     requires { HasKey column (change_of entry.now) }
-    ensures { datum_of result.now ≡ key_of column (change_of entry.now) }
+    ensures { datum_in result ≡ key_of column (change_of entry.now) }
 {
     match entry {
         Entry::Insert(row) => row.cell(column),
-        Entry::Delete(key) => key,
+        Entry::Delete(key) => Cell::Kept(key),
         Entry::Update(row) => row.cell(column),
     }
 }

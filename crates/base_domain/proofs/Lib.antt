@@ -6,3 +6,4 @@ mod Numbers
 mod Writes
 mod Accepts
 mod Arms
+mod Stays

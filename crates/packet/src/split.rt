@@ -44,10 +44,11 @@ fn put(parts: &mut Vec<Vec<Record>>, column: usize, signed: Record) -> Result<()
         ≡ parts_by column (length parts.old.items) rs → OnOk result (map (λ w. w.items)
         parts.new.items ≡ parts_by column (length parts.old.items) (rs ++ signed ∷ [])) }
 {
-    let Some(value) = signed.row.get(column) else {
+    let Some(cell) = signed.row.get(column) else {
         return Ok(());
     };
-    let part = shard_of(value, parts.len());
+    let part = shard_of(cell.value(), parts.len());
+    drop(cell);
     parts[part].push(signed)?;
     Ok(())
 }

@@ -17,7 +17,7 @@ use model::places::place_of;
 use plan::plan::Plan;
 use plan::table::Table;
 use row::row::Row;
-use row::value::{Value, shard_of};
+use row::value::shard_of;
 use std::alloc::{AllocError, Global};
 
 /// The most entries that a log has.
@@ -28,11 +28,10 @@ fn shard_of_entry(table: &Table, entry: &Entry) -> usize
     requires { table.now.shards ≢ 0 }
     ensures { result ≡ shard (key_of table.now.key (change_of entry.now)) table.now.shards }
 {
-    let zero = Value::Int(0);
     match entry {
-        Entry::Insert(row) => shard_of(row.cell_or(table.key(), &zero), table.shards()),
+        Entry::Insert(row) => shard_of(row.cell_or_zero(table.key()).value(), table.shards()),
         Entry::Delete(key) => shard_of(key, table.shards()),
-        Entry::Update(row) => shard_of(row.cell_or(table.key(), &zero), table.shards()),
+        Entry::Update(row) => shard_of(row.cell_or_zero(table.key()).value(), table.shards()),
     }
 }
 

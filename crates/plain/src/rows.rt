@@ -55,11 +55,10 @@ fn replaced(alloc: Global, key: usize, rows: Vec<Row>, row: &Row) -> Result<Vec<
     ensures { IfOk result (λ after. after.items
         ≡ map (λ x. cond (has key (cell_at row.now key) x) row.now x) rows.items) }
 {
-    let zero = Value::Int(0);
-    let value = row.cell_or(key, &zero);
+    let value = row.cell_or_zero(key).value().try_clone(alloc)?;
     let mut after = Vec::new(alloc);
     for old in &rows {
-        after.push(updated(old, key, value, row).try_clone(alloc)?)?;
+        after.push(updated(old, key, &value, row).try_clone(alloc)?)?;
     }
     Ok(after)
 }
@@ -90,11 +89,10 @@ pub fn is_lawful(
     ensures { IfOk result (λ answer. answer ≡ lawful key front.now (change_of entry.now)) }
 {
     let rows = rows_of(alloc, key, front)?;
-    let zero = Value::Int(0);
     Ok(match entry {
-        Entry::Insert(row) => !is_held(&rows, key, row.cell_or(key, &zero)),
+        Entry::Insert(row) => !is_held(&rows, key, row.cell_or_zero(key).value()),
         Entry::Delete(value) => is_held(&rows, key, value),
-        Entry::Update(row) => is_held(&rows, key, row.cell_or(key, &zero)),
+        Entry::Update(row) => is_held(&rows, key, row.cell_or_zero(key).value()),
     })
 }
 

@@ -40,7 +40,7 @@ impl Condition {
         ensures { result ≡ holds self.now row.now }
     {
         match row.get(self.column) {
-            Some(cell) => self.op.compares(cell.compare(&self.value)),
+            Some(cell) => self.op.compares(cell.value().compare(&self.value)),
             None => false,
         }
     }

@@ -232,7 +232,7 @@ fn all_take(columns: &[Column], row: &Row) -> bool
     ensures { result ≡ is_row columns.now row.now }
 {
     for (at, column) in columns.iter().enumerate() {
-        if !column.takes(row.cell(at)) {
+        if !column.takes(row.cell(at).value()) {
             return false;
         }
     }

@@ -25,9 +25,10 @@ fn waiting_key(
     ensures { IfOk result (λ o. (k : Key) → is_key o (datum_of k)
         ≡ (has column (datum_of k) row.now && is_waiting (state_of equal kept.now k))) }
 {
-    let Some(key) = row.get(column) else {
+    let Some(cell) = row.get(column) else {
         return Ok(None);
     };
+    let key = cell.value();
     if !kept.waits(key) {
         return Ok(None);
     }

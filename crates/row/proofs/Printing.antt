@@ -1,5 +1,5 @@
 -- What is written piece by piece is what is to be printed.
-use Rattle.std.proofs.Common.{◌/◌, inl, inr, ◌≡◌, ◌≢◌, ℕ, ◌+◌, ◌≤◌, ◌==◌, ◌||◌, not, Bool, true, false, cond, List, [], ◌∷◌, ◌++◌, length, take, map, flat_map, refl, ap, sym, ◌∙◌, arith, append_assoc, append-nil}
+use Rattle.std.proofs.Common.{◌/◌, inl, inr, ◌≡◌, ◌≢◌, ℕ, zero, suc, ◌+◌, ◌-◌, ◌≤◌, ◌==◌, ◌||◌, not, Bool, true, false, cond, List, [], ◌∷◌, ◌++◌, length, take, drop, slice_get, Some, None, map, flat_map, refl, ap, sym, ◌∙◌, arith, append_assoc, append-nil}
 use Rattle.std.specs.List.{list_all}
 use Rattle.std.specs.Fmt.{HasWritten}
 use Rattle.std.specs.declared.fmt.Formatter.{Formatter}
@@ -79,3 +79,24 @@ pub joined_written : {W X : Type 0} {took : W → List ℕ → W → Type 0} {st
     → HasWritten took next (flat_map (λ y. byte ∷ f y) (take i xs)) end → HasWritten took start (joined byte words) end
 joined_written byte f x xs i words whole done first rest =
     has_written_of_eq _ _ _ _ _ (joined_by_words byte f x xs ∙ ap (joined byte) whole) (has_written_append _ _ _ _ _ _ first (rw (take_all i xs done) at rest))
+
+-- a row with no first value has none
+pub row_empty : {X : Type 0} (row : List X) → slice_get row 0 ≡ None → row ≡ []
+row_empty [] h = refl
+row_empty (x ∷ row) h = absurd cc
+
+-- behind its first, it has the others
+pub row_split : {X : Type 0} (row : List X) (x : X) → slice_get row 0 ≡ Some x → row ≡ x ∷ drop 1 row
+row_split [] x h = absurd cc
+row_split (y ∷ row) x h = cc
+
+-- a loop's step over the others: the next word after the byte
+pub words_more : {X : Type 0} (f : X → List ℕ) (row : List X) (at : ℕ) (x : X) → 1 ≤ at → slice_get row at ≡ Some x → flat_map f (take (at - 1) (drop 1 row)) ++ f x ≡ flat_map f (take (at + 1 - 1) (drop 1 row))
+words_more f [] at x h there = absurd cc
+words_more f (y ∷ row) zero x h there = absurd (omega arith)
+words_more {X = X} f (y ∷ row) (suc at) x h there = let p : suc at - 1 ≡ at = omega arith in let q : suc at + 1 - 1 ≡ suc at = omega arith in rw (p, q) (more row at there)
+  where
+    more : (row : List X) (at : ℕ) → slice_get row at ≡ Some x → flat_map f (take at row) ++ f x ≡ flat_map f (take (suc at) row)
+    more [] at there = absurd cc
+    more (y ∷ row) zero there = let is : y ≡ x = cc in rw (is, append-nil (f x)) refl
+    more (y ∷ row) (suc at) there = rw (append_assoc (f y) (flat_map f (take at row)) (f x)) (ap (λ t. f y ++ t) (more row at there))

@@ -1,4 +1,5 @@
 pub mod Cells
+pub mod Packed
 pub mod Numbers
 pub mod Bags
 pub mod Held

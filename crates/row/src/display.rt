@@ -81,21 +81,21 @@ impl Display for Row {
     ghost output = { λ r. Some (spec.printed_row r) };
 
     fn fmt<W: fmt::Write>(&self, f: &mut fmt::Formatter<W>) -> fmt::Result {
-        write_values(f, self.cells())
+        write_cells(f, self)
     }
 }
 
-/// Writes the values with one space between each two.
-fn write_values<W: fmt::Write>(f: &mut fmt::Formatter<W>, values: &[Value]) -> fmt::Result
-    ensures { WritesOnOk W.write_str_gives f.old result
-        (spec.printed_row (map cells.datum_of values.now)) f.new }
+/// Writes the row's values with one space between each two.
+fn write_cells<W: fmt::Write>(f: &mut fmt::Formatter<W>, row: &Row) -> fmt::Result
+    ensures { WritesOnOk W.write_str_gives f.old result (spec.printed_row row.now) f.new }
 {
-    let Some((first, others)) = values.split_first() else {
+    let Some(first) = row.get(0) else {
         return Ok(());
     };
-    first.fmt(f)?;
-    for value in others {
-        write!(f, " {value}")?;
+    first.value().fmt(f)?;
+    for at in 1..row.width() {
+        f.write_str(" ")?;
+        row.cell(at).value().fmt(f)?;
     }
     Ok(())
 }

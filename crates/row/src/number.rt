@@ -18,8 +18,7 @@ fn number_of(value: &Value) -> i128
 pub fn number_at(row: &Row, column: usize) -> i128
     ensures { result ≡ number_of (cell_at row.now column) }
 {
-    let zero = Value::Int(0);
-    number_of(row.cell_or(column, &zero))
+    number_of(row.cell_or_zero(column).value())
 }
 
 /// The exact sum of a column: numbers of 64 bits in as many rows as a slice can have stay within

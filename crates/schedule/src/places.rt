@@ -232,9 +232,10 @@ pub fn entry_shard(plan: &Plan, table: usize, entry: &Entry) -> usize
 {
     plan.keeps_profile();
     let table = plan.table(table);
-    let key = match entry {
-        Entry::Insert(row) | Entry::Update(row) => row.cell(table.key()),
-        Entry::Delete(key) => key,
-    };
-    shard_of(key, table.shards())
+    match entry {
+        Entry::Insert(row) | Entry::Update(row) => {
+            shard_of(row.cell(table.key()).value(), table.shards())
+        }
+        Entry::Delete(key) => shard_of(key, table.shards()),
+    }
 }

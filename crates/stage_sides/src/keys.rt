@@ -55,9 +55,8 @@ fn is_known(right: &HeldSide, row: &Row) -> bool
     ensures known { result ≡ is_filled_at (rows_in right.now) row.now }
     ensures named { IsNamed (cell_at row.now (rows_in right.now).column) }
 {
-    let zero = Value::Int(0);
     let column = right.column();
-    right.is_filled(row.cell_or(column, &zero))
+    right.is_filled(row.cell_or_zero(column).value())
 }
 
 /// The records of filled keys, and the others, both in their order.

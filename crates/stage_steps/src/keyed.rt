@@ -42,8 +42,7 @@ fn is_told(column: usize, shards: usize, shard: usize, signed: &Record, evicts: 
     if !signed.row.has_shard(column, shards, shard) {
         return false;
     }
-    let zero = Value::Int(0);
-    !is_among(evicts, signed.row.cell_or(column, &zero))
+    !is_among(evicts, signed.row.cell_or_zero(column).value())
 }
 
 /// Whether the value is among these.
@@ -60,7 +59,6 @@ fn keyed(alloc: Global, column: usize, signed: &Record) -> Result<Keyed, AllocEr
       change = signed.now;
     }) }
 {
-    let zero = Value::Int(0);
-    let key = signed.row.cell_or(column, &zero).try_clone(alloc)?;
+    let key = signed.row.cell_or_zero(column).value().try_clone(alloc)?;
     Ok(Keyed::new(key, signed.try_clone(alloc)?))
 }

@@ -64,7 +64,12 @@ fn rows_compare_by_value_and_then_by_length(rt: HostRuntime) -> Result<(), Fail>
     Ok(())
 }
 
-const PRINTED: [(&[Cell], &str); 6] = [
+/// Two numbers, of which only the first is below 2^32.
+const SHORT: Cell = Int(4294967295);
+
+const WIDE: Cell = Int(4294967296);
+
+const PRINTED: [(&[Cell], &str); 18] = [
     (&[], ""),
     (&[Int(0)], "0"),
     (&[Int(-1)], "-1"),
@@ -74,6 +79,21 @@ const PRINTED: [(&[Cell], &str); 6] = [
         "-170141183460469231731687303715884105728",
     ),
     (&[Int(1), Int(7), Text("c d")], "1 7 \"c d\""),
+    (&[SHORT, WIDE, SHORT], "4294967295 4294967296 4294967295"),
+    (&[WIDE, SHORT, WIDE], "4294967296 4294967295 4294967296"),
+    (&[Int(1), Int(2), Int(3), Int(4)], "1 2 3 4"),
+    (&[Text("a"), Int(1), Int(2), Int(3)], "a 1 2 3"),
+    (&[Int(1), Text("a"), Int(2), Int(3)], "1 a 2 3"),
+    (&[Int(1), Int(2), Text("a"), Int(3)], "1 2 a 3"),
+    (&[Int(1), Int(2), Int(3), Text("a")], "1 2 3 a"),
+    (&[Text("a"), Text("b")], "a b"),
+    (&[Int(1), Text("a"), Int(2), Text("b")], "1 a 2 b"),
+    (&[Int(1), Int(-2), Int(3), Int(-4)], "1 -2 3 -4"),
+    (&[Int(1), Int(2), Int(3), Int(4), Int(5)], "1 2 3 4 5"),
+    (
+        &[Int(1), Int(2), Int(3), Int(4), LONG],
+        "1 2 3 4 9223372036854775808",
+    ),
 ];
 
 fn is_printed(alloc: Global, cells: &[Cell], text: &str) -> Result<bool, AllocError> {
@@ -84,6 +104,30 @@ fn is_printed(alloc: Global, cells: &[Cell], text: &str) -> Result<bool, AllocEr
 fn rows_are_printed(rt: HostRuntime) -> Result<(), Fail> {
     for (cells, text) in PRINTED {
         assert!(rt; is_printed(rt.alloc(), cells, text)?, "{text}");
+    }
+    Ok(())
+}
+
+/// Whether the row that is made value by value is printed so, and is that of all values at once.
+fn is_grown(alloc: Global, cells: &[Cell], text: &str) -> Result<bool, AllocError> {
+    let mut grown = row(alloc, &[])?;
+    for cell in cells {
+        grown = grown.with(alloc, value(alloc, *cell)?)?;
+    }
+    let other = row(alloc, cells)?;
+    let twice = grown.joined(alloc, &other)?;
+    Ok(
+        grown.to_string(alloc)?.as_str() == text
+            && grown == other
+            && twice.cmp(&grown).is_ge()
+            && twice.width() == 2 * cells.len(),
+    )
+}
+
+#[test]
+fn rows_are_made_value_by_value(rt: HostRuntime) -> Result<(), Fail> {
+    for (cells, text) in PRINTED {
+        assert!(rt; is_grown(rt.alloc(), cells, text)?, "{text}");
     }
     Ok(())
 }
