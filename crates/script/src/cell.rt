@@ -9,12 +9,11 @@ use plan::kinds::Kind;
 use row::value::Value;
 use std::alloc::{AllocError, Global};
 use std::borrow::CowStr;
-use std::sync::ArcStr;
 
 /// The word as a value for a column of the kind. A number is a word that is printed so: no `+`,
 /// no zero in front of its digits, no `-0`, and from -2^63 to 2^63 - 1. Any other word stays a
-/// text, which a column of numbers refuses by its kind. It copies a text that is borrowed, and takes
-/// memory for the count of a text's copies. Errors: memory only.
+/// text, which a column of numbers refuses by its kind. It copies the text, so that the value takes no
+/// more than its bytes need. Errors: memory only.
 #[tactic(auto, using(crate::proofs::Numbers::read_once))]
 pub fn value_of(alloc: Global, kind: Kind, word: CowStr<'_>) -> Result<Value, AllocError>
     ensures read { IfOk result (λ value. IsRead kind (cow_str_bytes word.entry) (datum_of value)) }
@@ -26,7 +25,7 @@ pub fn value_of(alloc: Global, kind: Kind, word: CowStr<'_>) -> Result<Value, Al
     {
         return Ok(Value::Int(number));
     }
-    Ok(Value::Text(ArcStr::from_string(word.into_owned(alloc)?)?))
+    Value::text(alloc, word.as_str())
 }
 
 /// The number of 64 bits that the word prints, if there is one. Takes no memory.
