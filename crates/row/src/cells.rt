@@ -35,8 +35,8 @@ pub(crate) struct Cells {
     kept: Kept,
 }
 
-/// How the values are kept. A row of up to four values, of which all but one are whole numbers below 2^32,
-/// is packed.
+/// How the values are kept. A row of up to four values, of which all but one are whole numbers
+/// below 2^32, is packed.
 #[derive(Debug, Drop)]
 enum Kept {
     /// So many of the numbers before the one value, and so many of them behind it.
@@ -130,7 +130,8 @@ impl Cells {
         }
     }
 
-    /// These values and then the value. Errors: memory only, which is not needed while they are packed.
+    /// These values and then the value. Errors: memory only, which is not needed while they are
+    /// packed.
     pub(crate) fn with(self, alloc: Global, value: Value) -> Result<Cells, AllocError>
         ensures { IfOk result (λ cells. cells ≡ self ++ datum_of value ∷ []) }
     {
@@ -179,7 +180,8 @@ fn packed_in(before: u8, after: u8, numbers: [u32; 3], value: Value) -> Cells
     }
 }
 
-/// One value more behind packed ones: packed too where it, or the one that is kept first, is a number below 2^32.
+/// One value more behind packed ones: packed too where it, or the one that is kept first, is a
+/// whole number below 2^32.
 fn packed_with(
     alloc: Global,
     before: u8,
