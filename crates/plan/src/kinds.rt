@@ -19,9 +19,9 @@ impl Kind {
     pub fn takes(self, value: &Value) -> bool
         ensures { result ≡ is_cell self (datum_of value.now) }
     {
-        match (self, value.as_number(), value) {
+        match (self, value.as_number(), value.as_text()) {
             (Kind::Int, Some(number), _) => i64::try_from(number).is_ok(),
-            (Kind::Text, _, Value::Text(text)) => is_plain(text.as_str().as_bytes()),
+            (Kind::Text, _, Some(text)) => is_plain(text.as_bytes()),
             _ => false,
         }
     }

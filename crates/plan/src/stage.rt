@@ -49,9 +49,9 @@ impl Condition {
     pub fn is_small(&self) -> bool
         ensures { result ≡ value_is_small self.now.value }
     {
-        match &self.value {
-            Value::Int(_) | Value::Long(_) => true,
-            Value::Text(text) => is_plain(text.as_str().as_bytes()),
+        match self.value.as_text() {
+            Some(text) => is_plain(text.as_bytes()),
+            None => true,
         }
     }
 

@@ -161,7 +161,7 @@ fn small_of(value: &Value) -> Option<u32>
 {
     match value {
         Value::Int(number) => u32::try_from(*number).ok(),
-        Value::Long(_) | Value::Text(_) => None,
+        Value::Long(_) | Value::Short(_) | Value::Text(_) => None,
     }
 }
 

@@ -18,6 +18,7 @@ impl Display for Value {
         match self {
             Value::Int(number) => write!(f, "{number}"),
             Value::Long(number) => write!(f, "{number}"),
+            Value::Short(text) => write_text(f, text.as_str()),
             Value::Text(text) => write_text(f, text.as_str()),
         }
     }

@@ -9,4 +9,5 @@ mod plans;
 mod rows;
 mod sessions;
 mod shards;
+mod texts;
 mod threads;

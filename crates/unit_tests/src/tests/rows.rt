@@ -13,7 +13,7 @@ use std::alloc::{AllocError, Global};
 use std::cmp::Ordering;
 use std::test::Fail;
 
-const SHARDS: [(Cell, usize, usize); 7] = [
+const SHARDS: [(Cell, usize, usize); 9] = [
     (Int(-3), 8, 5),
     (Int(-8), 8, 0),
     (Int(11), 8, 3),
@@ -21,6 +21,8 @@ const SHARDS: [(Cell, usize, usize); 7] = [
     (Int(18446744073709551616), 10, 6),
     (Text("ab"), 2, 1),
     (Text(""), 2, 0),
+    (Text("aaaaaaaaaaaaaaaaaaaaaaaa"), 10, 8),
+    (Text("aaaaaaaaaaaaaaaaaaaaaaaaa"), 10, 5),
 ];
 
 #[test]
@@ -132,13 +134,15 @@ fn rows_are_made_value_by_value(rt: HostRuntime) -> Result<(), Fail> {
     Ok(())
 }
 
-const QUOTED: [(&str, &str); 6] = [
+const QUOTED: [(&str, &str); 8] = [
     ("a", "a"),
     ("", "\"\""),
     ("x\"y", "\"x\\\"y\""),
     ("a\\b", "\"a\\\\b\""),
     ("#x", "#x"),
     ("é\"€", "\"é\\\"€\""),
+    ("abcdefghijklmnopqrstuv x", "\"abcdefghijklmnopqrstuv x\""),
+    ("abcdefghijklmnopqrstuvw x", "\"abcdefghijklmnopqrstuvw x\""),
 ];
 
 #[test]
