@@ -1,5 +1,5 @@
 -- Packed values: how many, each by its column, and one more.
-use Rattle.std.proofs.Common.{◌≡◌, ℕ, zero, suc, ◌+◌, ◌<◌, ◌≤◌, ◌-◌, List, [], ◌∷◌, ◌++◌, map, length, take, drop, get_or, slice_get, Some, None, refl, ap, sym, subst, ◌∙◌, arith, set, add-one}
+use Rattle.std.proofs.Common.{◌≡◌, ℕ, zero, suc, ◌+◌, ◌<◌, ◌≤◌, ◌-◌, List, [], ◌∷◌, ◌++◌, map, length, take, drop, get_or, slice_get, Some, None, refl, ap, sym, subst, ◌∙◌, arith}
 use Rattle.std.proofs.lemmas.List.{length-append, length-map, length-take-le, length-drop, get_or-drop}
 use Rattle.std.proofs.lemmas.Option.{slice_get_past}
 use Rattle.row.specs.Cells.{Datum, datum_of}
@@ -59,23 +59,6 @@ pub packed_past : (before after : ℕ) (ns : List ℕ) (v : Datum) (at : ℕ) �
 packed_past before after ns v at h past = slice_get_past (packed before after ns v) at (omega (arith, packed_length before after ns v h))
 
 -- ---- one value more
-taken_more : (after k : ℕ) (ns : List ℕ) (n : ℕ) → k ≡ after → k < length ns → map whole (take (suc after) (set ns k n)) ≡ map whole (take after ns) ++ whole n ∷ []
-taken_more after k [] n is within = absurd (omega arith)
-taken_more zero zero (x ∷ ns) n is within = refl
-taken_more zero (suc k) (x ∷ ns) n is within = absurd (omega arith)
-taken_more (suc after) zero (x ∷ ns) n is within = absurd (omega arith)
-taken_more (suc after) (suc k) (x ∷ ns) n is within = ap (λ r. whole x ∷ r) (taken_more after k ns n (omega arith) (omega arith))
-
--- a number behind the others
-pub packed_more : (before after k : ℕ) (ns : List ℕ) (v : Datum) (n : ℕ) → k ≡ before + after → k < length ns → packed before (after + 1) (set ns k n) v ≡ packed before after ns v ++ whole n ∷ []
-packed_more before after k ns v n is within = rw (add-one after) (more before k ns is within)
-  where
-    more : (before k : ℕ) (ns : List ℕ) → k ≡ before + after → k < length ns → packed before (suc after) (set ns k n) v ≡ packed before after ns v ++ whole n ∷ []
-    more zero k ns is within = ap (λ r. v ∷ r) (taken_more after k ns n (omega arith) within)
-    more (suc before) k [] is within = absurd (omega arith)
-    more (suc before) zero (x ∷ ns) is within = absurd (omega arith)
-    more (suc before) (suc k) (x ∷ ns) is within = ap (λ r. whole x ∷ r) (more before k ns (omega arith) (omega arith))
-
 -- the kept value was a number, and another is kept behind all
 pub packed_led : (before after : ℕ) (ns : List ℕ) (first : ℕ) (v : Datum) → before ≡ 0 → after ≤ 2 → length ns ≡ 3 → packed (after + 1) 0 (first ∷ get_or ns 0 0 ∷ get_or ns 1 0 ∷ []) v ≡ packed before after ns (whole first) ++ v ∷ []
 packed_led (suc before) after ns first v none small three = absurd (omega arith)

@@ -1,8 +1,11 @@
 -- The values of a row as it keeps them, and one of them by itself.
-use Rattle.std.specs.Prelude.{◌≡◌, ℕ, ◌+◌, ◌≤◌, length, List, ◌++◌, ◌∷◌, map, take, drop, pos}
-use Rattle.row.specs.Cells.{Datum, int, datum_of}
+use Rattle.std.specs.Prelude.{◌≡◌, ℕ, ◌+◌, ◌≤◌, length, List, ◌++◌, ◌∷◌, map, take, drop, pos, Option, Some, None}
+use Rattle.std.specs.declared.cmp.Ordering.{Ordering}
+use Rattle.row.specs.Cells.{Datum, int, datum_of, datum_cmp}
 use Rattle.row.specs.declared.cells.Cell.{Cell}
 use Rattle.row.specs.declared.cells.Cell.TheVariants as cell
+use Rattle.row.specs.declared.cells.Slot.{Slot}
+use Rattle.row.specs.declared.cells.Slot.TheVariants as slot
 use Rattle.row.specs.declared.cells.Kept.{Kept}
 use Rattle.row.specs.declared.cells.Kept.TheVariants as kept
 
@@ -14,6 +17,17 @@ datum_in (cell.Kept value) = datum_of value.now
 -- a whole number from 0 on
 abbrev pub whole : ℕ → Datum
 whole n = int (pos n)
+
+-- the value as it is kept
+abbrev pub datum_at : Slot → Datum
+datum_at (slot.Number n) = whole n
+datum_at (slot.Value value) = datum_of value.now
+
+-- how two values stand to each other, where both are there
+abbrev pub order_of : Option Datum → Option Datum → Option Ordering
+order_of (Some x) (Some y) = Some (datum_cmp x y)
+order_of (Some x) None = None
+order_of None y = None
 
 -- so many of the numbers, then the value, and so many of the numbers that are left
 abbrev pub packed : ℕ → ℕ → List ℕ → Datum → List Datum

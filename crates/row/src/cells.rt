@@ -1,11 +1,12 @@
 //! The values of a row, as it keeps them.
 ghost use Rattle.std.specs.Prelude.{◌≡◌, ◌<◌, ◌≤◌, ◌++◌, ◌+◌, ◌∷◌, [], length, map, IfOk, IfSome, OnOk, slice_get};
 ghost use Rattle.std.specs.Option.{option_map};
-ghost use Rattle.row.specs.Cells.{Datum, datum_of};
-ghost use Rattle.row.specs.Packed.{datum_in, packed, whole};
+ghost use Rattle.row.specs.Cells.{Datum, datum_cmp, datum_of};
+ghost use Rattle.row.specs.Packed.{datum_at, datum_in, order_of, packed, whole};
 
 use crate::value::Value;
 use std::alloc::{AllocError, Global};
+use std::cmp::Ordering;
 use std::marker::Model;
 
 /// A value of a row: made of a number that the row keeps in fewer bits, or where the row keeps it.
@@ -25,6 +26,30 @@ impl Cell<'_> {
         match self {
             Cell::Made(value) => value,
             Cell::Kept(value) => value,
+        }
+    }
+}
+
+/// A value of a row as the row keeps it.
+#[derive(Clone, Copy)]
+pub(crate) enum Slot<'a> {
+    /// A number in fewer bits.
+    Number(u32),
+    /// A value.
+    Value(&'a Value),
+}
+
+impl Slot<'_> {
+    /// How the value stands to the other. Takes no memory.
+    #[inline]
+    pub(crate) fn compare(self, other: Slot<'_>) -> Ordering
+        ensures { result ≡ datum_cmp (datum_at self.entry) (datum_at other.entry) }
+    {
+        match (self, other) {
+            (Slot::Number(number), Slot::Number(other)) => number.cmp(&other),
+            (Slot::Value(value), Slot::Value(other)) => value.cmp(other),
+            (Slot::Number(number), Slot::Value(other)) => value_of(number).cmp(other),
+            (Slot::Value(value), Slot::Number(other)) => value.cmp(&value_of(other)),
         }
     }
 }
@@ -98,9 +123,10 @@ impl Cells {
         }
     }
 
-    /// The value in the column, if there is one.
-    pub(crate) fn get(&self, at: usize) -> Option<Cell<'_>>
-        ensures { option_map datum_in result ≡ slice_get self.now at }
+    /// The value in the column as it is kept, if there is one.
+    #[inline]
+    pub(crate) fn slot(&self, at: usize) -> Option<Slot<'_>>
+        ensures { option_map datum_at result ≡ slice_get self.now at }
     {
         match &self.kept {
             Kept::Packed {
@@ -111,22 +137,44 @@ impl Cells {
             } => {
                 let before = usize::from(*before);
                 if at == before {
-                    Some(Cell::Kept(value))
+                    Some(Slot::Value(value))
                 } else if at < before {
-                    Some(made_of(numbers[at]))
+                    Some(Slot::Number(numbers[at]))
                 } else if at <= before + usize::from(*after) {
-                    Some(made_of(numbers[at - 1]))
+                    Some(Slot::Number(numbers[at - 1]))
                 } else {
                     None
                 }
             }
             Kept::Many(values) => {
                 if at < values.len() {
-                    Some(Cell::Kept(&values[at]))
+                    Some(Slot::Value(&values[at]))
                 } else {
                     None
                 }
             }
+        }
+    }
+
+    /// The value in the column, if there is one.
+    pub(crate) fn get(&self, at: usize) -> Option<Cell<'_>>
+        ensures { option_map datum_in result ≡ slice_get self.now at }
+    {
+        match self.slot(at) {
+            Some(Slot::Number(number)) => Some(Cell::Made(value_of(number))),
+            Some(Slot::Value(value)) => Some(Cell::Kept(value)),
+            None => None,
+        }
+    }
+
+    /// How the value in the column stands to that of the other row, where both have the column.
+    #[inline]
+    pub(crate) fn order_at(&self, other: &Cells, at: usize) -> Option<Ordering>
+        ensures { result ≡ order_of (slice_get self.now at) (slice_get other.now at) }
+    {
+        match (self.slot(at), other.slot(at)) {
+            (Some(slot), Some(other)) => Some(slot.compare(other)),
+            _ => None,
         }
     }
 
@@ -149,10 +197,10 @@ impl Cells {
 }
 
 /// The value of a number.
-fn made_of(number: u32) -> Cell<'static>
-    ensures { datum_in result ≡ whole number }
+fn value_of(number: u32) -> Value
+    ensures { datum_of result ≡ whole number }
 {
-    Cell::Made(Value::Int(i64::from(number)))
+    Value::Int(i64::from(number))
 }
 
 /// The number that the value is, if it is one below 2^32.
