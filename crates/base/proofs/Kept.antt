@@ -1,5 +1,5 @@
 -- The rows of a shard, with a row more or less, as bags.
-use Rattle.std.proofs.Common.{◌≡◌, ◌+◌, Bool, true, false, cond, List, [], ◌∷◌, Option, Some, None, IfSome, Result, Ok, Err, IfOk, IsPermutation, refl, ap, sym, ◌∙◌, arith}
+use Rattle.std.proofs.Common.{◌≡◌, ◌+◌, Bool, true, false, cond, List, [], ◌∷◌, Option, Some, None, IfSome, Result, Ok, Err, IfOk, OnErr, IsPermutation, refl, ap, sym, ◌∙◌, arith}
 use Rattle.std.specs.Map.{values_of, lookup, remove_entry, set_value}
 use Rattle.std.specs.HashMap.{HashMap, IsReordered, values}
 use Rattle.std.proofs.lemmas.List.Sorted.{IsPermutation-map}
@@ -16,6 +16,10 @@ if_some (Some x) f h = f x h
 pub if_ok : {A E : Type 0} {P Q : A → Type 0} (r : Result A E) → ((v : A) → P v → Q v) → IfOk r P → IfOk r Q
 if_ok (Ok v) f h = f v h
 if_ok (Err e) f h = tt
+
+pub on_err : {A E : Type 0} {P : Type 0} (r : Result A E) → P → OnErr r P
+on_err (Ok v) h = tt
+on_err (Err e) h = h
 
 -- the rows of entries in another order
 entries_alike : (es fs : List (Value × Cells)) → IsPermutation es fs → IsAlike row_cmp (values_of es) (values_of fs)

@@ -2,7 +2,7 @@
 use Rattle.std.proofs.Common.{◌≡◌, ℕ, ◌<◌, ◌≤◌, true, false, cond, List, [], ◌∷◌, map, Option, Some, None, is_some, IsSome, IfSome, slice_get, length, IsPermutation, Bor, MutBor, refl, ap, sym, ◌∙◌, arith}
 use Rattle.std.specs.List.{IsDistinct}
 use Rattle.std.specs.Map.{keys_of, values_of, lookup, remove_entry, set_value}
-use Rattle.std.specs.HashMap.{HashMap, IsUnique, IsReordered, WritesThrough, values, spare}
+use Rattle.std.specs.HashMap.{HashMap, IsUnique, IsReordered, values, spare}
 use Rattle.std.proofs.lemmas.List.Elements.{All-cons}
 use Rattle.std.proofs.lemmas.List.Sorted.{All-permutation, IsPermutation-map}
 use Rattle.row.specs.Cells.{Datum, Cells, datum_of, cell_at, has, row_cmp}
@@ -15,6 +15,7 @@ use Rattle.row.specs.declared.value.Value.{Value}
 use Rattle.row.specs.contracts.value.ValuePartialEq.TheImpl.{eq-value}
 use Rattle.model.specs.Logs.{inserts, deletes, updates, changed, is_held}
 use Rattle.row.specs.Groups.{equal}
+use Rattle.row.specs.ValueMaps.{Writes}
 use Rattle.base.specs.Stored.{IsKeyed, AreKeyed, IsStored}
 use Rattle.base.specs.Shards.{Shard}
 use Rattle.std.specs.Option.{option_map, option_copied, option_copied_mut}
@@ -121,11 +122,19 @@ module _ {S : Type 0} (key : ℕ) (m n : HashMap Value Cells S) where
     room = room_kept ready (spare m) (spare n) more old.room;
   }
 
-  pub stored_updated : (v : Value) (row : Cells) (ready : Option Value) → WritesThrough equal (equal v) m row n → slice_get row key ≡ Some (datum_of v) → IsStored key m ready → IsStored key n ready
+  pub stored_updated : (v : Value) (row : Cells) (ready : Option Value) → Writes m v row n → slice_get row key ≡ Some (datum_of v) → IsStored key m ready → IsStored key n ready
   stored_updated v row ready h own old = record {
-    keyed = rw h.0 (keyed_updated key v row m.entries own old.keyed);
-    unique = h.4;
-    room = room_kept ready (spare m) (spare n) (omega (arith, h.6)) old.room;
+    keyed = rw h.entries (keyed_updated key v row m.entries own old.keyed);
+    unique = h.unique;
+    room = room_kept ready (spare m) (spare n) (omega (arith, h.room)) old.room;
+  }
+
+  -- entries in another order, and no less room
+  pub stored_moved : (ready : Option Value) → IsReordered equal m n → IsUnique equal n → spare m ≤ spare n → IsStored key m ready → IsStored key n ready
+  stored_moved ready h unique more old = record {
+    keyed = reordered_keyed key m n h old.keyed;
+    unique = unique;
+    room = room_kept ready (spare m) (spare n) more old.room;
   }
 
   pub stored_reordered : (ready now : Option Value) → IsReordered equal m n → IsUnique equal n → 0 < spare n → IsStored key m ready → IsStored key n now

@@ -2,7 +2,7 @@
 ghost use Rattle.std.specs.Prelude.{◌≡◌, ◌≢◌, ◌+◌, ◌++◌, ◌∷◌, [], List, filter, ◌<◌, ◌↔◌, true, false, IsTrue, IsOk, OnOk, IfOk, IfErr, IfSome, OnErr, IsOkUnless, Some, None, is_some, length};
 ghost use Rattle.std.specs.List.Sorted.{IsPermutation};
 ghost use Rattle.std.specs.HashMap.{get, spare, IsUnique};
-ghost use Rattle.row.specs.{Bags.IsAscending, Cells.datum_of, Cells.cell_at, Cells.has, Cells.row_cmp, Changes.Turns, Groups.equal, Packed.datum_in};
+ghost use Rattle.row.specs.{Bags.IsAscending, Cells.datum_of, Cells.cell_at, Cells.has, Cells.row_cmp, Changes.Turns, Groups.equal, Packed.datum_in, ValueMaps.kept_key};
 ghost use Rattle.model.specs.{Logs.Change, Logs.inserts, Logs.deletes, Logs.updates, Logs.is_held, Logs.key_of, Logs.rows_of, Refusals.full, Refusals.refusal, Entries.change_of};
 ghost use Rattle.base.specs.{Shards.Shard, Shards.IsAt, Shards.HasKey, Shards.HasRoom, Shards.adds_row, Shards.room_after, Shards.rows_with, Shards.rows_after, Shards.rows_changed, Shards.after_entry, Shards.refusal_of, Shards.verdict, Indexed.IsOf, Parts.found, Records.plus_of, Records.minus_of, Records.records_of, Records.records_at, Records.record_count};
 
@@ -13,11 +13,10 @@ use row::cells::Cell;
 use row::grouped::Grouped;
 use row::record::{Record, Sign};
 use row::refused::Refused;
-use row::room::reserve_one;
 use row::row::Row;
 use row::value::Value;
+use row::value_map::ValueMap;
 use std::alloc::{AllocError, Global};
-use std::collections::HashMap;
 use std::marker::Model;
 use std::mem;
 
@@ -27,7 +26,7 @@ pub struct BaseShard {
     key_column: usize,
     limit: u64,
     entry_count: u64,
-    rows: HashMap<Value, Row>,
+    rows: ValueMap<Row>,
     ready: Option<Value>,
     indexes: Vec<Index>,
 }
@@ -75,7 +74,7 @@ impl BaseShard {
             key_column,
             limit,
             entry_count: 0,
-            rows: HashMap::new(alloc),
+            rows: ValueMap::new(alloc),
             ready: None,
             indexes: Vec::new(alloc),
         }
@@ -102,7 +101,7 @@ impl BaseShard {
             key_column,
             limit,
             entry_count: 0,
-            rows: HashMap::new(alloc),
+            rows: ValueMap::new(alloc),
             ready: None,
             indexes: indexes_by(alloc, columns)?,
         })
@@ -328,7 +327,7 @@ impl BaseShard {
         ensures err { OnErr result (self.new ≡ self.old) }
     {
         let key = key.try_clone(alloc).map_err(|_| Refused::NoMemory)?;
-        reserve_one(&mut self.rows).map_err(|_| Refused::NoMemory)?;
+        self.rows.reserve_one().map_err(|_| Refused::NoMemory)?;
         self.ready = Some(key);
         Ok(())
     }
@@ -460,10 +459,11 @@ fn plus(alloc: Global, row: &Row) -> Result<Record, AllocError>
 }
 
 /// Puts the row under a key that none has yet, in room that is there.
-fn put(rows: &mut HashMap<Value, Row>, key: Value, row: Row)
+fn put(rows: &mut ValueMap<Row>, key: Value, row: Row)
     requires room { 0 < spare rows.old }
     requires absent { get equal rows.old key ≡ None }
-    ensures entries { IsPermutation ((key, row) ∷ rows.old.entries) rows.new.entries }
+    ensures entries { IsPermutation ((kept_key key, row) ∷ rows.old.entries)
+        rows.new.entries }
     ensures unique { IsUnique equal rows.new }
 {
     let _ = rows.insert(key, row);

@@ -10,3 +10,5 @@ pub mod ValueOrder
 pub mod Changes
 pub mod BagChanges
 pub mod Groups
+pub mod ValueMaps
+pub mod ValueMapLends

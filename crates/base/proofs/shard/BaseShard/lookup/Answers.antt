@@ -50,7 +50,7 @@ pub returns-clause-rows : goal.returns-clause-rows
 returns-clause-rows c =
     let v = datum_of c.args.value.now in
     let rows = values c.self.inside.rows in
-    let all = rw (c.in-None.ensures.steps.0, c.into_iter-row-iterator.ensures.into_iter_gives, c.values-row-items.ensures.rest) at c.loop-row.invariant in
+    let all = rw (c.in-None.ensures.steps.0, c.into_iter-row-iterator.ensures.into_iter_gives, c.values-row-items.ensures) at c.loop-row.invariant in
     rw (← c.self.view_is) (found_all c.args.column v c.args.part rows c.loop-row.found.items c.sort.new.self.items all c.in_ok-sort.ensures.permutation c.in_ok-sort.ensures.sorted)
 
 pub returns-clause-front : goal.returns-clause-front

@@ -42,11 +42,11 @@ invariant_of-self c =
     let now = c.get_mut.follows.lender in
     subst (λ r. IsStored c.self.inside.key_column (now r) c.self.inside.ready × AreIndexes (values (now r)) indexes) (sym c.replace-old.ensures.after) (
       stored_updated c.self.inside.key_column c.self.inside.rows (now c.args.row) c.value.result.now c.args.row c.self.inside.ready (c.get_mut.follows.holds c.args.row) (c.cell-key.ensures ∙ ap Some (sym c.value.ensures)) c.self.invariant.0,
-      subst (λ l. AreIndexes (values_of l) indexes) (sym (c.get_mut.follows.holds c.args.row).0) kept,
+      subst (λ l. AreIndexes (values_of l) indexes) (sym (c.get_mut.follows.holds c.args.row).entries) kept,
     )
 
 pub returns : goal.returns
 returns c =
     let own = own_cell c.args.row c.self.inside.key_column (datum_of c.value.result.now) (rw (← c.self.view_is) at c.requires.key) (c.cell-key.ensures ∙ ap Some (sym c.value.ensures)) in
     rw (← c.self.view_is, c.replace-old.ensures.after) (shard_is _ _ _ _ _ _ _
-    (updated_rows c.self.inside.key_column c.value.result.now c.args.row c.self.inside.rows.entries (c.get_mut.follows.lender c.args.row).entries c.self.invariant.0.keyed c.self.invariant.0.unique own (c.get_mut.follows.holds c.args.row).0) refl)
+    (updated_rows c.self.inside.key_column c.value.result.now c.args.row c.self.inside.rows.entries (c.get_mut.follows.lender c.args.row).entries c.self.invariant.0.keyed c.self.invariant.0.unique own (c.get_mut.follows.holds c.args.row).entries) refl)
