@@ -103,7 +103,7 @@ module _ {X : Type 0} where
       by (q ∷ qs) b a = (get_moved es i q d inside b.0 a.0, by qs b.1 a.1)
 
 -- without the last position
-there_at : (ps : List ℕ) (k p : ℕ) → slice_get ps k ≡ Some p → 0 < times p ps
+pub there_at : (ps : List ℕ) (k p : ℕ) → slice_get ps k ≡ Some p → 0 < times p ps
 there_at [] k p h = absurd (some_is_none (sym h))
 there_at (q ∷ ps) zero p h = let n = times-same p q ps (some_same h) in omega (arith, n)
 there_at (q ∷ ps) (suc k) p h = let r = there_at ps k p h in let n = times-le p q ps in omega (arith, n, r)

@@ -1,16 +1,23 @@
 -- What each call makes of the entries, seen from the latest on.
-use Rattle.std.proofs.Common.{◌≡◌, ℕ, zero, suc, ◌-◌, ◌<◌, Bool, List, [], ◌∷◌, ◌++◌, Option, Some, None, length, map, slice_get, swap_remove, take, refl, sym, ap, ◌∙◌, arith}
+use Rattle.std.proofs.Common.{◌+◌, reverse, ◌≡◌, ℕ, zero, suc, ◌-◌, ◌<◌, Bool, List, [], ◌∷◌, ◌++◌, Option, Some, None, length, map, slice_get, swap_remove, take, refl, sym, ap, ◌∙◌, arith}
 use Rattle.std.specs.Cmp.{IsEquivalence}
 use Rattle.std.specs.List.{IsDistinct}
 use Rattle.std.specs.Option.{option_map, option_map_or}
 use Rattle.std.specs.Map.{keys_of, lookup, lookup_entry, remove_entry, set_value}
-use Rattle.std.proofs.lemmas.List.{length-map}
-use Rattle.std.proofs.lemmas.Option.{slice_get_within}
+use Rattle.std.proofs.lemmas.List.{length-map, reverse-append, take_all, take_more}
+use Rattle.std.proofs.lemmas.Option.{slice_get_within, get_or_from_slice_get}
 use Rattle.indexmap.specs.Layout.{set_value_at}
 use Rattle.linked_map.specs.Orders.{times, without, renamed, IsOrder, entries_at}
 use Rattle.linked_map.specs.LinkedMap.{put_entries, last_entry}
 use Rattle.linked_map.proofs.Counting.{if_same, times-without, length-without, Each, Each-from, none_is, is_there, is_below, at_most_once}
-use Rattle.linked_map.proofs.Entries.{Inside, Absent, IsSole, length-entries, entry_of_place, entries-take, entries-push, entries_removed, entries_front, entries_written, without_last, lookup_by_entry, absent_lookup, absent_remove, sole_lookup, sole_removed, distinct_entries}
+use Rattle.linked_map.proofs.Entries.{Inside, Absent, IsSole, length-entries, entry_of_place, entries-take, entries-push, entries_removed, entries_front, entries_written, without_last, there_at, lookup_by_entry, absent_lookup, absent_remove, sole_lookup, sole_removed, distinct_entries}
+
+reverse_taken : {X : Type 0} (xs : List X) (k : ℕ) (x : X) → slice_get xs k ≡ Some x → reverse (take (suc k) xs) ≡ x ∷ reverse (take k xs)
+reverse_taken xs k x h =
+    let n : suc k ≡ k + 1 = omega arith in
+    ap (λ j. reverse (take j xs)) n
+    ∙ ap reverse (take_more xs k x (slice_get_within xs k x h) ∙ ap (λ y. take k xs ++ y ∷ []) (get_or_from_slice_get xs k x x h))
+    ∙ reverse-append (take k xs) (x ∷ [])
 
 module _ {K V : Type 0} (es : List (K × V)) (ps : List ℕ) (order : IsOrder ps) (len : length ps ≡ length es) where
   inside : Inside es ps
@@ -35,6 +42,16 @@ module _ {K V : Type 0} (es : List (K × V)) (ps : List ℕ) (order : IsOrder ps
 
   pub once : {eq : K → K → Bool} → IsEquivalence eq → IsDistinct eq (keys_of es) → IsDistinct eq (keys_of (entries_at es ps))
   once laws d = distinct_entries laws es ps d (at_most_once ps order)
+
+  -- a position that stands at the place k, and its entry
+  pub placed : (k p : ℕ) → slice_get ps k ≡ Some p → p < length es
+  placed k p at = let t = there_at ps k p at in let b = is_below ps order p t in omega (arith, b, len)
+
+  pub walked : (k p : ℕ) (e : K × V) → slice_get ps k ≡ Some p → slice_get es p ≡ Some e → reverse (take (suc k) (entries_at es ps)) ≡ e ∷ reverse (take k (entries_at es ps))
+  walked k p e at is = reverse_taken (entries_at es ps) k e (entry_of_place es ps k p inside at ∙ is)
+
+  pub whole : (n : ℕ) → n ≡ length ps → take n (entries_at es ps) ≡ entries_at es ps
+  whole n is = take_all n (entries_at es ps) (let s = seen in omega (arith, is, s))
 
   -- a key that is there
   module _ (eq : K → K → Bool) (k : K) (i : ℕ) (e : K × V) (sole : IsSole (eq k) es i e) where

@@ -1,5 +1,5 @@
 -- What each change of a ring leaves.
-use Rattle.std.proofs.Common.{◌≡◌, ℕ, suc, ◌-◌, ◌^◌, ◌<◌, ◌==◌, inl, inr, List, [], ◌∷◌, ◌++◌, Some, length, map, get_or, slice_get, swap_remove, refl, sym, ap, subst, ◌∙◌, arith, if◌then◌else◌, map-id}
+use Rattle.std.proofs.Common.{zero, ◌≡◌, ℕ, suc, ◌-◌, ◌^◌, ◌<◌, ◌==◌, inl, inr, List, [], ◌∷◌, ◌++◌, Some, length, map, get_or, slice_get, swap_remove, refl, sym, ap, subst, ◌∙◌, arith, if◌then◌else◌, map-id}
 use Rattle.std.proofs.lemmas.Bool.{cases_eq}
 use Rattle.std.proofs.lemmas.List.{length_push, get_or_append_left, get_or_push, length-map, length-set, length-take-le}
 use Rattle.linked_map.specs.Orders.{times, without, renamed, IsOrder}
@@ -20,6 +20,15 @@ keeps links latest ps small order n s cycle = record { ring = ring_is links late
 last_of : (o w : ℕ → ℕ) (a : ℕ) (xs : List ℕ) (b : ℕ) → Runs o w a xs b → Some (w b) ≡ slice_get (a ∷ xs) (length xs)
 last_of o w a [] b r = ap Some r.1
 last_of o w a (x ∷ xs) b r = last_of o w x xs b r.1
+
+newer_of : (o w : ℕ → ℕ) (a : ℕ) (xs : List ℕ) (b k q : ℕ) → Runs o w a xs b → slice_get (a ∷ xs) (suc k) ≡ Some q → slice_get (a ∷ xs) k ≡ Some (w q)
+newer_of o w a [] b k q r h = cc
+newer_of o w a (x ∷ xs) b zero q r h = let same : x ≡ q = cc in ap Some (sym r.0.1) ∙ ap (λ z. Some (w z)) same
+newer_of o w a (x ∷ xs) b (suc k) q r h = newer_of o w x xs b k q r.1 h
+
+newer_of_cycle : (links : List Link) (ps : List ℕ) (k q : ℕ) → Cycle links ps → slice_get ps (suc k) ≡ Some q → slice_get ps k ≡ Some (newer_at links q)
+newer_of_cycle links [] k q cycle h = cc
+newer_of_cycle links (p ∷ ps) k q cycle h = newer_of (older_at links) (newer_at links) p ps p k q cycle h
 
 last_of_cycle : (links : List Link) (latest : ℕ) (ps : List ℕ) → 0 < length ps → StartsAt latest ps → Cycle links ps → Some (newer_at links latest) ≡ slice_get ps (length ps - 1)
 last_of_cycle links latest [] h s cycle = absurd (omega (arith, h))
@@ -66,6 +75,9 @@ module _ (links : List Link) (latest : ℕ) (r : IsRing links latest) where
 
   pub oldest : 0 < length ps → Some (newer_at links latest) ≡ slice_get ps (length ps - 1)
   oldest h = last_of_cycle links latest ps h start r.cycle
+
+  pub newer : (k q : ℕ) → slice_get ps (suc k) ≡ Some q → slice_get ps k ≡ Some (newer_at links q)
+  newer k q h = newer_of_cycle links ps k q r.cycle h
 
   pub latest_inside : 0 < length links → latest < length links
   latest_inside h = by ps start (omega (arith, h, count)) below

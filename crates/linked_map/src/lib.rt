@@ -5,5 +5,6 @@
 //! allocated one by one.
 #![tactic(auto)]
 
+pub mod iter;
 pub mod map;
 mod ring;

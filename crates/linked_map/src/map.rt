@@ -1,5 +1,5 @@
 //! `LinkedMap` and its methods. A clause sees a map as its entries, the latest first.
-ghost use Rattle.std.specs.Prelude.{◌≡◌, ◌-◌, ◌^◌, ◌≤◌, ◌<◌, [], length, slice_get, take, Some, OnOk, OnErr};
+ghost use Rattle.std.specs.Prelude.{◌≡◌, ◌-◌, ◌^◌, ◌≤◌, ◌<◌, [], length, reverse, slice_get, take, Some, OnOk, OnErr};
 ghost use Rattle.std.specs.Borrow.{sem};
 ghost use Rattle.std.specs.List.{IsDistinct};
 ghost use Rattle.std.specs.Map.{keys_of, lookup, remove_entry};
@@ -9,6 +9,7 @@ ghost use Rattle.indexmap.specs.IndexMap.{IsUnchanged, index_map_len, spare};
 ghost use Rattle.linked_map.specs.LinkedMap.{last_entry, put_entries};
 ghost use Rattle.linked_map.specs.Orders.{IsOrder, entries_at, without};
 
+use crate::iter::Iter;
 use crate::ring::Ring;
 use indexmap::IndexMap;
 use std::alloc::{AllocError, Global};
@@ -88,6 +89,15 @@ impl<K: Eq + Hash, V> LinkedMap<K, V> {
             return None;
         }
         self.map.get_index(self.ring.oldest())
+    }
+}
+
+impl<K: Eq + Hash, V> LinkedMap<K, V> {
+    /// The entries from the oldest to the latest. Takes no memory. Constant time, and so each step.
+    pub fn iter(&self) -> Iter<'_, K, V>
+        ensures { result ≡ reverse self.now }
+    {
+        Iter::new(&self.map, &self.ring)
     }
 }
 

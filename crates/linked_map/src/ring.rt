@@ -1,5 +1,5 @@
 //! The order of the positions of a table.
-ghost use Rattle.std.specs.Prelude.{◌≡◌, ◌<◌, ◌-◌, ◌^◌, ◌==◌, ◌∷◌, [], length, map, slice_get, if◌then◌else◌, Some, OnOk, OnErr};
+ghost use Rattle.std.specs.Prelude.{◌≡◌, ℕ, suc, ◌<◌, ◌-◌, ◌^◌, ◌==◌, ◌∷◌, [], length, map, slice_get, if◌then◌else◌, Some, OnOk, OnErr};
 ghost use Rattle.linked_map.specs.Orders.{IsOrder, renamed, without};
 ghost use Rattle.linked_map.specs.Rings.{older_at, newer_at, with_older, with_newer, parted, joined, told};
 
@@ -59,6 +59,14 @@ impl Ring {
         ensures { Some result ≡ slice_get self.now (length self.now - 1) }
     {
         self.links[self.latest as usize].newer as usize
+    }
+
+    /// The position that is one newer than this, and of the latest the oldest. Constant time.
+    pub(crate) fn newer(&self, place: usize) -> usize
+        requires { place < length self.now }
+        ensures { (k : ℕ) → slice_get self.now (suc k) ≡ Some place → slice_get self.now k ≡ Some result }
+    {
+        self.links[place].newer as usize
     }
 
     /// The next position, as the latest. Errors: memory, or 2^32 - 1 positions are there; then all is
