@@ -1,11 +1,11 @@
 -- Entries and keys the other way round: what stands first, what a look-up finds, what a removal leaves.
-use Rattle.std.proofs.Common.{◌≡◌, ◌-◌, ◌^◌, ◌<◌, Bool, true, false, cond, List, [], ◌∷◌, ◌++◌, Option, Some, None, Result, Ok, Err, refl, ap, sym, ◌∙◌, length, reverse, slice_get, take, drop, subst, arith}
-use Rattle.std.proofs.lemmas.List.{reverse-append, take_all}
+use Rattle.std.proofs.Common.{◌≡◌, ◌-◌, Bool, true, false, cond, List, [], ◌∷◌, ◌++◌, Option, Some, None, Result, Ok, Err, refl, ap, sym, ◌∙◌, length, reverse, slice_get, take, drop, subst, arith}
+use Rattle.std.proofs.lemmas.List.{reverse-append}
 use Rattle.std.proofs.lemmas.Map.{lookup-remove_entry, lookup-set_value, keys-set_value}
 use Rattle.std.proofs.lemmas.Map.Keys.{IsDistinct-head, IsDistinct-tail, IsDistinct-cons, IsDistinct-IsPermutation}
 use Rattle.std.proofs.lemmas.List.Sorted.{IsPermutation-reverse}
 use Rattle.std.specs.Option.{option_map, option_map_or, IsSome}
-use Rattle.lru.specs.LruCache.{LruCache, put_entries}
+use Rattle.linked_map.specs.LinkedMap.{put_entries}
 use Rattle.std.specs.Cmp.{IsEquivalence}
 use Rattle.std.specs.List.{IsDistinct, AllByRecursion}
 use Rattle.std.specs.Map.{lookup, lookup_entry, keys_of, remove_entry, set_value}
@@ -150,17 +150,14 @@ entry_none {K} {X} test (e ∷ es) h = step (test e.0) h (entry_none test es)
     step true h rest = cc
     step false h rest = rest h
 
--- ---- what a cache gives and leaves
+-- ---- what a map gives and leaves
 -- the entries once a key that is not there was put in
-pub put_is : {K X : Type 0} {eq : K → K → Bool} → IsEquivalence eq → (c : LruCache K X) (k : K) (v : X) → IsDistinct eq (keys_of c.entries) → length c.entries < 2 ^ 63 → c.cap ≡ 2 ^ 64 - 1
-    → lookup (eq k) (reverse c.entries) ≡ None → reverse (put_entries eq c k v) ≡ reverse c.entries ++ (k, v) ∷ []
-put_is {K} {X} {eq} laws c k v d small cap none = ap reverse (step (lookup_entry (eq k) c.entries) (entry_none (eq k) c.entries (sym (lookup-reverse laws k c.entries d) ∙ none))) ∙ reverse-cons (k, v) c.entries
+pub put_is : {K X : Type 0} {eq : K → K → Bool} → IsEquivalence eq → (es : List (K × X)) (k : K) (v : X) → IsDistinct eq (keys_of es)
+    → lookup (eq k) (reverse es) ≡ None → reverse (put_entries eq es k v) ≡ reverse es ++ (k, v) ∷ []
+put_is {K} {X} {eq} laws es k v d none = ap reverse (step (lookup_entry (eq k) es) (entry_none (eq k) es (sym (lookup-reverse laws k es d) ∙ none))) ∙ reverse-cons (k, v) es
   where
-    all : take (c.cap - 1) c.entries ≡ c.entries
-    all = take_all (c.cap - 1) c.entries (rw cap (omega (arith, small)))
-
-    step : (o : Option (K × X)) → o ≡ None → option_map_or (λ e. (e.0, v) ∷ remove_entry (eq k) c.entries) o ((k, v) ∷ take (c.cap - 1) c.entries) ≡ (k, v) ∷ c.entries
-    step None e = ap (λ l. (k, v) ∷ l) all
+    step : (o : Option (K × X)) → o ≡ None → option_map_or (λ e. (e.0, v) ∷ remove_entry (eq k) es) o ((k, v) ∷ es) ≡ (k, v) ∷ es
+    step None e = refl
     step (Some p) e = cc
 
 all_removed : {K X : Type 0} (P : K → Type 0) (test : K → Bool) (es : List (K × X)) → AllByRecursion P (keys_of es) → AllByRecursion P (keys_of (remove_entry test es))

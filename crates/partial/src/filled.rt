@@ -1,8 +1,6 @@
 //! The filled entries, in the order in which they were filled.
-ghost use Rattle.std.specs.Prelude.{◌≡◌, ◌<◌, ◌++◌, ◌∷◌, [], length, reverse, slice_get, drop, is_some, Some, None, false, if◌then◌else◌, IfOk, OnOk, OnErr, IfSome};
+ghost use Rattle.std.specs.Prelude.{◌≡◌, ◌<◌, ◌++◌, ◌∷◌, [], length, reverse, slice_get, drop, is_some, Some, None, false, if◌then◌else◌, OnOk, OnErr, IfSome};
 ghost use Rattle.std.specs.Option.{option_copied, option_map, ForSome};
-ghost use Rattle.std.specs.Map.Iter.{TakesFirst, deref_pair};
-ghost use Rattle.std.specs.Iterator.{at_most};
 ghost use Rattle.std.specs.Map.{lookup, keys_of};
 ghost use Rattle.std.specs.Set.{remove_key};
 ghost use Rattle.std.specs.List.{IsDistinct};
@@ -10,7 +8,8 @@ ghost use Rattle.row.specs.{Bags.times, Bags.inserted, Bags.removed, Cells.row_c
 ghost use Rattle.partial.specs.States.{changed_at};
 
 use crate::gather::Gather;
-use lru::{Iter, LruCache};
+use linked_map::iter::Iter;
+use linked_map::map::LinkedMap;
 use row::bag::Bag;
 use row::row::Row;
 use std::alloc::{AllocError, Global};
@@ -20,27 +19,25 @@ use std::marker::Model;
 /// Filled entries by their keys, seen as the list of them from the one that was filled first.
 #[derive(Drop)]
 pub struct Filled<K: Eq + Hash, E> {
-    latest: LruCache<K, E>,
+    latest: LinkedMap<K, E>,
 }
 
 impl<K: Eq + Hash, E> Model for Filled<K, E> {
-    ghost use Rattle.std.specs.Prelude.{◌≡◌, ◌^◌, ◌-◌, List, reverse};
+    ghost use Rattle.std.specs.Prelude.{List, reverse};
 
     ghost Value = { List (K × E) };
 
-    ghost view = { λ f. reverse f.latest.entries };
-
-    ghost invariant = { λ f. f.latest.cap ≡ 2 ^ 64 - 1 };
+    ghost view = { λ f. reverse f.latest };
 }
 
 impl<K: Eq + Hash + Drop, E: Drop> Filled<K, E> {
-    /// No entry. Errors: memory only.
-    pub fn new(alloc: Global) -> Result<Filled<K, E>, AllocError>
-        ensures { IfOk result (λ f. f ≡ []) }
+    /// No entry. Takes no memory.
+    pub fn new(alloc: Global) -> Filled<K, E>
+        ensures { result ≡ [] }
     {
-        Ok(Filled {
-            latest: LruCache::unbounded(alloc)?,
-        })
+        Filled {
+            latest: LinkedMap::new(alloc),
+        }
     }
 
     /// The entry of the key. Takes no memory. Constant time.
@@ -62,12 +59,12 @@ impl<K: Eq + Hash + Drop, E: Drop> Filled<K, E> {
     pub fn oldest(&self) -> Option<&K>
         ensures { option_copied result ≡ slice_get (keys_of self.now) 0 }
     {
-        let (key, _) = self.latest.peek_lru()?;
+        let (key, _) = self.latest.peek_oldest()?;
         Some(key)
     }
 
-    /// Puts in an entry whose key is not there, behind all others. Errors: memory only; then all is
-    /// as it was. Constant time.
+    /// Puts in an entry whose key is not there, behind all others. Errors: memory, or 2^32 - 1
+    /// entries are there; then all is as it was. Constant time, spread over many.
     pub fn fill(&mut self, key: K, entry: E) -> Result<(), AllocError>
         requires { lookup (K.eq key) self.old ≡ None }
         ensures filled { OnOk result (self.new ≡ self.old ++ (key, entry) ∷ []) }
@@ -101,7 +98,7 @@ impl<K: Eq + Hash + Drop, E: Drop> Filled<K, E> {
             ≡ (if K.eq key k then None else lookup (K.eq k) self.old)) }
     {
         let _ = self.latest.len();
-        let (key, _) = self.latest.pop_lru()?;
+        let (key, _) = self.latest.pop_oldest()?;
         Some(key)
     }
 
@@ -113,12 +110,10 @@ impl<K: Eq + Hash + Drop, E: Drop> Filled<K, E> {
     }
 
     /// The keys with their entries, from the one that was filled first. Takes no memory.
-    pub fn iter(&self) -> Walk<'_, K, E>
+    pub fn iter(&self) -> Iter<'_, K, E>
         ensures { result ≡ self.now }
     {
-        Walk {
-            latest: self.latest.iter(),
-        }
+        self.latest.iter()
     }
 }
 
@@ -172,32 +167,5 @@ impl<K: Eq + Hash + Drop> Filled<K, Bag> {
             Some(rows) => rows.subtract(row),
             None => {}
         }
-    }
-}
-
-/// The filled entries from the one that was filled first, seen as the list of those that are
-/// left.
-#[derive(Drop)]
-pub struct Walk<'a, K, E> {
-    latest: Iter<'a, K, E>,
-}
-
-impl<'a, K, E> Model for Walk<'a, K, E> {
-    ghost use Rattle.std.specs.Prelude.{List, reverse};
-
-    ghost Value = { List (K × E) };
-
-    ghost view = { λ w. reverse w.latest };
-}
-
-impl<'a, K, E> Iterator for Walk<'a, K, E> {
-    type Item = (&'a K, &'a E);
-
-    ghost next_gives = { TakesFirst deref_pair };
-
-    ghost remaining = { λ s. at_most (length s) };
-
-    fn next(&mut self) -> Option<(&'a K, &'a E)> {
-        self.latest.next_back()
     }
 }

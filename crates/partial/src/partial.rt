@@ -9,10 +9,11 @@ ghost use Rattle.std.specs.Map.{lookup};
 ghost use Rattle.row.specs.{Bags.times, Bags.inserted, Bags.removed, Cells.row_cmp};
 ghost use Rattle.partial.specs.{States.Kept, States.IsApart, States.state_of, States.order_of, States.OthersStay, States.GoesLast, States.Hole, States.is_hole, States.is_waiting, States.changed_at, States.entry_of, States.begun, States.fills, States.evicted, States.says_evicted, States.after_piece, States.after_change, States.ChangeFits, Truth.IsTrueOf, Truth.with_part};
 
-use crate::filled::{Filled, Walk};
+use crate::filled::Filled;
 use crate::gather::Gather;
 use crate::pieces::Pieces;
 use crate::waiting::{drop_piece, take_whole};
+use linked_map::iter::Iter;
 use row::bag::Bag;
 use row::row::Row;
 use std::alloc::{AllocError, Global};
@@ -74,7 +75,7 @@ impl<K: Eq + Hash + Drop, E: Drop> Partial<K, E> {
     {
         Ok(Partial {
             sources,
-            filled: Filled::new(alloc)?,
+            filled: Filled::new(alloc),
             waiting: HashMap::new(alloc),
         })
     }
@@ -129,7 +130,7 @@ impl<K: Eq + Hash + Drop, E: Drop> Partial<K, E> {
     }
 
     /// The filled keys with their entries, from the key that was filled first. Takes no memory.
-    pub fn iter(&self) -> Walk<'_, K, E>
+    pub fn iter(&self) -> Iter<'_, K, E>
         ensures { result ≡ self.now.filled }
     {
         self.filled.iter()

@@ -7,5 +7,5 @@ use Rattle.partial.proofs.filled.Filled.keeps_once.Goals as goal
 
 pub returns : goal.returns
 returns g c =
-    let es = c.self.inside.latest.entries in
-    rw (← c.self.view_is, keys-reverse es) (IsDistinct-IsPermutation g.K.PartialEq.eq g.met.K.Eq.laws.symm (keys_of es) (reverse (keys_of es)) (IsPermutation-reverse (keys_of es)) c.len.ensures.valid.0)
+    let es = c.self.inside.latest in
+    rw (← c.self.view_is, keys-reverse es) (IsDistinct-IsPermutation g.K.PartialEq.eq g.met.K.Eq.laws.symm (keys_of es) (reverse (keys_of es)) (IsPermutation-reverse (keys_of es)) c.len.ensures.unique)

@@ -1,0 +1,4 @@
+pub mod Orders
+pub mod Rings
+pub mod LinkedMap
+pub mod Lends
