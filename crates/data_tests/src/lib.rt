@@ -1,4 +1,4 @@
-//! Tests of `plain`, `partial` and `ops`: that calls which take memory succeed, and
+//! Tests of `plain`, `partial`, `linked_map` and `ops`: that calls which take memory succeed, and
 //! examples whose answers are known from outside the code.
 #![tactic(auto)]
 

@@ -3,6 +3,7 @@ mod evaluator;
 mod filters;
 mod gathers;
 mod histories;
+mod linked;
 mod plans;
 mod stages;
 mod words;

@@ -1,11 +1,10 @@
 -- What the map's entries become, as data.
-use Rattle.std.proofs.Common.{◌≡◌, ◌<◌, ◌^◌, ◌-◌, Bool, true, false, cond, not, List, [], ◌∷◌, ◌++◌, fold, Option, Some, None, Result, Ok, Err, OnErr, refl, ap, sym, ◌∙◌, subst, length, take, arith}
-use Rattle.std.proofs.lemmas.List.{take_all}
+use Rattle.std.proofs.Common.{◌≡◌, Bool, true, false, cond, not, List, [], ◌∷◌, ◌++◌, fold, Option, Some, None, Result, Ok, Err, OnErr, refl, ap, sym, ◌∙◌, subst}
 use Rattle.std.proofs.lemmas.Map.Keys.{IsDistinct-head, IsDistinct-tail}
 use Rattle.std.specs.List.{IsDistinct, AllByRecursion}
 use Rattle.std.specs.Map.{lookup, lookup_entry, keys_of, remove_entry, set_value}
 use Rattle.std.specs.Option.{option_map_or}
-use Rattle.lru.specs.LruCache.{LruCache, put_entries}
+use Rattle.linked_map.specs.LinkedMap.{put_entries}
 use Rattle.row.specs.BagChanges.{with_records}
 use Rattle.row.specs.Cells.{Cells, datum_of, same}
 use Rattle.row.specs.Groups.{equal}
@@ -102,17 +101,13 @@ one_entry k p (e ∷ es) h = step (equal k e.0) refl h (one_entry k p es)
     step true t h rest = ap (λ o. datum_of (option_map_or (λ q. q.0) o k)) (sym h) ∙ sym (equal_is k e.0 t)
     step false t h rest = rest h
 
-pub put_in : (c : LruCache Value (List Cells)) (k : Value) (v : List Cells) → IsDistinct equal (keys_of c.entries) → length c.entries < 2 ^ 63 → c.cap ≡ 2 ^ 64 - 1
-    → rows_in (put_entries equal c k v) ≡ (datum_of k, v) ∷ without (datum_of k) (rows_in c.entries)
-put_in c k v d small cap = step (lookup_entry (equal k) c.entries) refl
+pub put_in : (es : Entries) (k : Value) (v : List Cells) → IsDistinct equal (keys_of es) → rows_in (put_entries equal es k v) ≡ (datum_of k, v) ∷ without (datum_of k) (rows_in es)
+put_in es k v d = step (lookup_entry (equal k) es) refl
   where
-    all : take (c.cap - 1) c.entries ≡ c.entries
-    all = take_all (c.cap - 1) c.entries (rw cap (omega (arith, small)))
-
-    step : (o : Option (Value × List Cells)) → lookup_entry (equal k) c.entries ≡ o
-        → rows_in (option_map_or (λ e. (e.0, v) ∷ remove_entry (equal k) c.entries) o ((k, v) ∷ take (c.cap - 1) c.entries)) ≡ (datum_of k, v) ∷ without (datum_of k) (rows_in c.entries)
-    step None n = ap (λ l. (datum_of k, v) ∷ rows_in l) all ∙ ap (λ l. (datum_of k, v) ∷ l) (sym (without_none k c.entries (no_entry k c.entries n)))
-    step (Some p) h = ap (λ x. (x, v) ∷ rows_in (remove_entry (equal k) c.entries)) (one_entry k p c.entries h) ∙ ap (λ l. (datum_of k, v) ∷ l) (removed_in k c.entries d)
+    step : (o : Option (Value × List Cells)) → lookup_entry (equal k) es ≡ o
+        → rows_in (option_map_or (λ e. (e.0, v) ∷ remove_entry (equal k) es) o ((k, v) ∷ es)) ≡ (datum_of k, v) ∷ without (datum_of k) (rows_in es)
+    step None n = ap (λ l. (datum_of k, v) ∷ l) (sym (without_none k es (no_entry k es n)))
+    step (Some p) h = ap (λ x. (x, v) ∷ rows_in (remove_entry (equal k) es)) (one_entry k p es h) ∙ ap (λ l. (datum_of k, v) ∷ l) (removed_in k es d)
 
 pub same_in : (k : Value) (old : List Cells) (es : Entries) → lookup (equal k) es ≡ Some old → rows_in (set_value (equal k) es old) ≡ rows_in es
 same_in k old [] h = refl

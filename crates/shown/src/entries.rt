@@ -1,11 +1,11 @@
 //! The shown keys with their rows.
-ghost use Rattle.std.specs.Prelude.{◌≡◌, ◌∷◌, [], IfOk, OnOk, OnErr};
+ghost use Rattle.std.specs.Prelude.{◌≡◌, ◌∷◌, [], OnOk, OnErr};
 ghost use Rattle.std.specs.Option.{option_copied};
 ghost use Rattle.row.specs.Cells.{datum_of};
 ghost use Rattle.shown.specs.Snapshots.{shown_at, turned, without};
 
 use crate::rows::KeyRows;
-use lru::LruCache;
+use linked_map::map::LinkedMap;
 use row::record::Record;
 use row::value::Value;
 use std::alloc::{AllocError, Global};
@@ -14,28 +14,25 @@ use std::marker::Model;
 /// Keys with their rows, each key once.
 #[derive(Drop)]
 pub struct Entries {
-    map: LruCache<Value, KeyRows>,
+    map: LinkedMap<Value, KeyRows>,
 }
 
 impl Model for Entries {
-    ghost use Rattle.std.specs.Prelude.{◌≡◌, ◌^◌, ◌-◌};
     ghost use Rattle.shown.specs.Snapshots.{Rows, rows_in};
 
     ghost Value = { Rows };
 
-    ghost view = { λ e. rows_in e.map.entries };
-
-    ghost invariant = { λ e. e.map.cap ≡ 2 ^ 64 - 1 };
+    ghost view = { λ e. rows_in e.map };
 }
 
 impl Entries {
-    /// No key. Errors: memory only.
-    pub fn new(alloc: Global) -> Result<Entries, AllocError>
-        ensures { IfOk result (λ e. e ≡ []) }
+    /// No key. Takes no memory.
+    pub fn new(alloc: Global) -> Entries
+        ensures { result ≡ [] }
     {
-        Ok(Entries {
-            map: LruCache::unbounded(alloc)?,
-        })
+        Entries {
+            map: LinkedMap::new(alloc),
+        }
     }
 
     /// The rows of a key, where it is there. Takes no memory. Constant time.
@@ -45,8 +42,8 @@ impl Entries {
         self.map.peek(key)
     }
 
-    /// Puts in a key with its rows, in the place of what was there of it. Errors: memory only; then
-    /// all is as it was. Constant time.
+    /// Puts in a key with its rows, in the place of what was there of it. Errors: memory, or 2^32 - 1
+    /// keys are there; then all is as it was. Constant time, spread over many.
     pub fn put(&mut self, key: Value, rows: KeyRows) -> Result<(), AllocError>
         ensures put { OnOk result (self.new
             ≡ (datum_of key, rows) ∷ without (datum_of key) self.old) }

@@ -62,7 +62,7 @@ impl<J: Naming> Shown<J> {
             alloc,
             view,
             shard,
-            rows: Entries::new(alloc)?,
+            rows: Entries::new(alloc),
             cut: Cut::zeros(alloc, plan, part)?,
             asked: 0,
         })

@@ -263,7 +263,7 @@ fn steps_change_the_output(rt: HostRuntime) -> Result<(), Fail> {
 }
 
 /// The next of the numbers that follow from a seed, below a limit.
-fn next(seed: &mut u64, limit: u64) -> u64
+pub(super) fn next(seed: &mut u64, limit: u64) -> u64
     requires { limit ≢ 0 }
 {
     *seed = seed

@@ -4,4 +4,4 @@ use Rattle.shown.proofs.Mapped.{removed_in}
 use Rattle.shown.proofs.entries.Entries.remove.Goals as goal
 
 pub returns : goal.returns
-returns c = rw (← c.self.view_is) (ap (λ m. rows_in m.entries) c.pop-gone.ensures.entries ∙ removed_in c.args.key.now c.self.inside.map.entries c.len.ensures.valid.0)
+returns c = rw (← c.self.view_is) (ap rows_in c.pop-gone.ensures.entries ∙ removed_in c.args.key.now c.self.inside.map c.len.ensures.unique)

@@ -6,4 +6,4 @@ pub returns : goal.returns
 returns g c =
     let p = g.J.Naming.plan in
     let cut = c.in_ok-zeros.field-0 in
-    rw (c.in_ok-new.ensures, c.in_ok-zeros.ensures.lengths, no_fronts p cut.seen p.stages) refl
+    rw (c.new.ensures, c.in_ok-zeros.ensures.lengths, no_fronts p cut.seen p.stages) refl
