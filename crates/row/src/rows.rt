@@ -61,8 +61,8 @@ impl Rows {
         }
     }
 
-    /// Puts the row in a place, and those from there on behind it. A list that is full gets room for a
-    /// quarter more than it has. Errors: memory only; then the rows are as they were. Cost: a move of
+    /// Puts the row in a place, and those from there on behind it. A list that is full gets room for an
+    /// eighth more than it has, and two besides at most. Errors: memory only; then the rows are as they were. Cost: a move of
     /// the rows behind, and where the list is full one of all, spread over many.
     pub(crate) fn insert(&mut self, alloc: Global, at: usize, row: Row) -> Result<(), AllocError>
         requires { at ≤ length (rows_in self.old) }
@@ -94,7 +94,7 @@ impl Rows {
             Rows::Many(rows) => {
                 let len = rows.len();
                 if len == rows.capacity() {
-                    rows.reserve_exact(len / 4 + 1)?;
+                    rows.reserve_exact(more_room(len))?;
                 }
                 rows.insert(at, row)?;
                 Ok(())
@@ -132,6 +132,14 @@ impl Rows {
             }
         }
     }
+}
+
+/// For how many rows more a full list of so many gets room: with them it is an odd number, since that
+/// is what a piece of the C library's memory holds, beside the word that it keeps for itself.
+fn more_room(len: usize) -> usize
+    ensures { 0 < result }
+{
+    len / 8 + 1 + (len % 2 + len / 8) % 2
 }
 
 /// Both rows, moved out of their place.
