@@ -4,6 +4,7 @@ mod cuts;
 mod gaps;
 mod inboxes;
 mod indexes;
+mod keys;
 mod packets;
 mod plans;
 mod rows;
