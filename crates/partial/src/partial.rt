@@ -69,7 +69,7 @@ impl<K: Eq + Hash, E> Model for Partial<K, E> {
 }
 
 impl<K: Eq + Hash + Drop, E: Drop> Partial<K, E> {
-    /// All keys are holes. Errors: memory only.
+    /// All keys are holes. Takes no memory.
     pub fn new(alloc: Global, sources: usize) -> Result<Partial<K, E>, AllocError>
         ensures { IfOk result (λ p. p ≡ record { sources = sources; filled = []; waiting = [] }) }
     {
@@ -177,8 +177,8 @@ impl<K: Eq + Hash + Drop, E: Gather> Partial<K, E> {
     /// Takes in the piece of a source for a key that waits for it; with the last one the key is
     /// filled with the sum of the pieces, behind all keys that are filled, and the call says so. A
     /// piece for a key that does not wait, or from a source whose piece is here already, or that
-    /// there is not, changes nothing. Errors: memory only; then the key is a hole. Cost: the number
-    /// of sources, and that of the sum.
+    /// there is not, changes nothing. Errors: memory, or 2^32 - 1 keys are filled; then the key is a
+    /// hole. Cost: the number of sources, and that of the sum.
     pub fn give_piece(
         &mut self,
         alloc: Global,
