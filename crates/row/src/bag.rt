@@ -102,8 +102,17 @@ impl Bag {
     pub fn contains(&self, row: &Row) -> bool
         ensures { IsTrue result ↔ 0 < times row_cmp row.now self.now }
     {
-        let rows = self.rows.as_slice();
-        let at = place(rows, row);
+        self.has_at(place(self.rows(), row), row)
+    }
+
+    // Whether the row is there at least once, given the place where it would be.
+    fn has_at(&self, at: usize, row: &Row) -> bool
+        requires small { at ≤ length self.now }
+        requires place { IsPartitionPoint (λ y. is_gt (row_cmp row.now y) ≡ true)
+            (λ y. is_gt (row_cmp row.now y) ≡ false) self.now at }
+        ensures { IsTrue result ↔ 0 < times row_cmp row.now self.now }
+    {
+        let rows = self.rows();
         at < rows.len() && row.cmp(&rows[at]).is_eq()
     }
 
@@ -169,7 +178,18 @@ impl Bag {
         requires { 0 < times row_cmp row.now self.old }
         ensures { self.new ≡ removed row_cmp row.now self.old }
     {
-        let at = place(self.rows.as_slice(), row);
+        let at = place(self.rows(), row);
+        self.take_at(at, row);
+    }
+
+    // Takes away one of the row, which is there from this place on.
+    fn take_at(&mut self, at: usize, row: &Row)
+        requires small { at ≤ length self.old }
+        requires place { IsPartitionPoint (λ y. is_gt (row_cmp row.now y) ≡ true)
+            (λ y. is_gt (row_cmp row.now y) ≡ false) self.old at }
+        requires there { 0 < times row_cmp row.now self.old }
+        ensures { self.new ≡ removed row_cmp row.now self.old }
+    {
         self.rows.remove(at);
     }
 
@@ -251,8 +271,9 @@ impl Bag {
     fn take_away(&mut self, row: &Row)
         ensures { self.new ≡ removed row_cmp row.now self.old }
     {
-        if self.contains(row) {
-            self.subtract(row);
+        let at = place(self.rows(), row);
+        if self.has_at(at, row) {
+            self.take_at(at, row);
         }
     }
 }

@@ -113,6 +113,28 @@ impl Cells {
         Ok(cells)
     }
 
+    /// The same values, and room for one more where each has a place of its own. Errors: memory only,
+    /// which packed ones need for a value of the kept one alone. Cost: a copy of each value that is no
+    /// packed number.
+    pub(crate) fn copied(&self, alloc: Global) -> Result<Cells, AllocError>
+        ensures { IfOk result (λ cells. cells ≡ self.now) }
+    {
+        match &self.kept {
+            Kept::Packed {
+                before,
+                after,
+                numbers,
+                value,
+            } => {
+                let value = value.try_clone(alloc)?;
+                Ok(packed_in(*before, *after, *numbers, value))
+            }
+            Kept::Many(values) => Ok(Cells {
+                kept: Kept::Many(copies_of(alloc, values)?),
+            }),
+        }
+    }
+
     /// How many values.
     pub(crate) fn len(&self) -> usize
         ensures { result ≡ length self.now }
@@ -194,6 +216,17 @@ impl Cells {
             Kept::Many(values) => many_with(values, value),
         }
     }
+}
+
+/// The same values, with room for one more.
+fn copies_of(alloc: Global, values: &[Value]) -> Result<Vec<Value>, AllocError>
+    ensures { IfOk result (λ all. map datum_of all.items ≡ map datum_of values.now) }
+{
+    let mut all = Vec::with_capacity(alloc, values.len().saturating_add(1))?;
+    for value in values {
+        all.push(value.try_clone(alloc)?)?;
+    }
+    Ok(all)
 }
 
 /// The value of a number.

@@ -5,7 +5,7 @@ use Rattle.row.specs.Bags.{times}
 use Rattle.row.proofs.BagLemmas.{none_of, removed_absent}
 use Rattle.row.proofs.bag.Bag.take_away.Goals as goal
 
-pub returns-else-contains : goal.returns-else-contains
-returns-else-contains c =
-    let none = none_of c.contains.result (times row_cmp c.args.row.now c.args.self.now) c.if-contains.false c.contains.ensures.1 in
+pub returns-else-has_at : goal.returns-else-has_at
+returns-else-has_at c =
+    let none = none_of c.has_at.result (times row_cmp c.args.row.now c.args.self.now) c.if-has_at.false c.has_at.ensures.1 in
     sym (removed_absent row_cmp row_total c.args.row.now c.args.self.now none)
