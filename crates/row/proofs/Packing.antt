@@ -1,5 +1,5 @@
 -- Packed values: how many, each by its column, and one more.
-use Rattle.std.proofs.Common.{◌≡◌, ℕ, zero, suc, ◌+◌, ◌<◌, ◌≤◌, ◌-◌, List, [], ◌∷◌, ◌++◌, map, length, take, drop, get_or, slice_get, Some, None, refl, ap, sym, subst, ◌∙◌, arith}
+use Rattle.std.proofs.Common.{◌≡◌, ℕ, zero, suc, ◌+◌, ◌<◌, ◌≤◌, ◌-◌, List, [], ◌∷◌, ◌++◌, map, length, take, drop, get_or, slice_get, Some, None, refl, ap, sym, subst, ◌∙◌, arith, rules}
 use Rattle.std.proofs.lemmas.List.{length-append, length-map, length-take-le, length-drop, get_or-drop}
 use Rattle.std.proofs.lemmas.Option.{slice_get_past}
 use Rattle.row.specs.Cells.{Datum, datum_of}
@@ -8,8 +8,8 @@ use Rattle.row.specs.declared.cells.Kept.{Kept}
 use Rattle.row.specs.declared.cells.Kept.TheVariants.{Packed}
 use Rattle.row.specs.declared.value.Value.{Value}
 
--- as many as the numbers before and behind, and one
-taken_length : (n : ℕ) (ns : List ℕ) → n ≤ length ns → length (map whole (take n ns)) ≡ n
+-- so many numbers
+pub taken_length : (n : ℕ) (ns : List ℕ) → n ≤ length ns → length (map whole (take n ns)) ≡ n
 taken_length n ns h = length-map (take n ns) whole ∙ length-take-le n ns h
 
 pub packed_length : (before after : ℕ) (ns : List ℕ) (v : Datum) → before + after ≤ length ns → length (packed before after ns v) ≡ before + 1 + after
@@ -38,7 +38,7 @@ behind (suc before) (x ∷ ns) (suc k) at h is rest = behind before ns k at (ome
 pub packed_at : (before after : ℕ) (ns : List ℕ) (v : Datum) (at : ℕ) → before ≤ length ns → at ≡ before → slice_get (packed before after ns v) at ≡ Some v
 packed_at before after ns v at h is = behind before ns at zero h (omega arith) (v ∷ map whole (take after (drop before ns)))
 
-taken : (n : ℕ) (ns : List ℕ) (at : ℕ) (d : ℕ) → at < n → at < length ns → slice_get (map whole (take n ns)) at ≡ Some (whole (get_or ns at d))
+pub taken : (n : ℕ) (ns : List ℕ) (at : ℕ) (d : ℕ) → at < n → at < length ns → slice_get (map whole (take n ns)) at ≡ Some (whole (get_or ns at d))
 taken n [] at d less within = absurd (omega arith)
 taken zero (x ∷ ns) at d less within = absurd (omega arith)
 taken (suc n) (x ∷ ns) zero d less within = refl
@@ -53,6 +53,10 @@ packed_behind before after ns v (suc at) n h more within =
     let number = taken after (drop before ns) k n (omega arith) (omega (arith, length-drop before ns)) in
     let place : before + k ≡ suc at - 1 = omega arith in
     there ∙ number ∙ ap (λ i. Some (whole i)) (get_or-drop before ns k n ∙ ap (λ i. get_or ns i n) place)
+
+-- nothing past so many numbers
+pub taken_past : (n : ℕ) (ns : List ℕ) (at : ℕ) → n ≤ length ns → n ≤ at → slice_get (map whole (take n ns)) at ≡ None
+taken_past n ns at h past = slice_get_past (map whole (take n ns)) at (omega (arith, taken_length n ns h))
 
 -- nothing past them
 pub packed_past : (before after : ℕ) (ns : List ℕ) (v : Datum) (at : ℕ) → before + after ≤ length ns → before + after < at → slice_get (packed before after ns v) at ≡ None
@@ -70,6 +74,24 @@ packed_led zero zero (x ∷ y ∷ z ∷ []) first v none small three = refl
 packed_led zero (suc zero) (x ∷ y ∷ z ∷ []) first v none small three = refl
 packed_led zero (suc (suc zero)) (x ∷ y ∷ z ∷ []) first v none small three = refl
 packed_led zero (suc (suc (suc after))) (x ∷ y ∷ z ∷ []) first v none small three = absurd (omega arith)
+
+-- ---- the numbers of a whole row
+pub of_none : (row : List Datum) → length row ≡ 0 → row ≡ []
+of_none [] h = refl
+of_none (x ∷ row) h = absurd (omega arith)
+
+pub of_one : (row : List Datum) (x : Datum) → length row ≡ 1 → slice_get row 0 ≡ Some x → row ≡ x ∷ []
+of_one [] x h first = absurd (omega arith)
+of_one (y ∷ []) x h first = search rules
+of_one (y ∷ z ∷ row) x h first = absurd (omega arith)
+
+pub of_two : (row : List Datum) (x y : Datum) → length row ≡ 2 → slice_get row 0 ≡ Some x → slice_get row 1 ≡ Some y → row ≡ x ∷ y ∷ []
+of_two [] x y h first second = absurd (omega arith)
+of_two (z ∷ row) x y h first second = let rest = of_one row y (omega arith) second in search rules
+
+pub of_three : (row : List Datum) (x y z : Datum) → length row ≡ 3 → slice_get row 0 ≡ Some x → slice_get row 1 ≡ Some y → slice_get row 2 ≡ Some z → row ≡ x ∷ y ∷ z ∷ []
+of_three [] x y z h first second third = absurd (omega arith)
+of_three (w ∷ row) x y z h first second third = let rest = of_two row y z (omega arith) second third in search rules
 
 -- ---- of what is kept
 pub packed_fits : (kept : Kept) (before after : ℕ) (ns : List ℕ) (v : Value) → Fits kept → kept ≡ Packed before after ns v → (length ns ≡ 3) × (before + after ≤ 3)

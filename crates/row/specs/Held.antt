@@ -1,5 +1,5 @@
 -- The rows that stand in the places of a bag.
-use Rattle.std.specs.Prelude.{List, [], ◌∷◌, box_value}
+use Rattle.std.specs.Prelude.{List, [], ◌∷◌}
 use Rattle.row.specs.Cells.{Cells}
 use Rattle.row.specs.declared.rows.Rows.{Rows}
 use Rattle.row.specs.declared.rows.Rows.TheVariants as place
@@ -8,5 +8,4 @@ use Rattle.row.specs.declared.rows.Rows.TheVariants as place
 abbrev pub rows_in : Rows → List Cells
 rows_in place.None = []
 rows_in (place.One row) = row ∷ []
-rows_in (place.Two rows) = box_value rows
-rows_in (place.Many rows) = (box_value rows).items
+rows_in (place.Many rows) = rows.items

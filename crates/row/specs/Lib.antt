@@ -1,5 +1,6 @@
 pub mod Cells
 pub mod Packed
+pub mod Places
 pub mod Numbers
 pub mod Bags
 pub mod Held

@@ -1,12 +1,12 @@
 //! A bag of rows: a row counts as often as it was added and not taken away.
-ghost use Rattle.std.specs.Prelude.{◌≡◌, ◌==◌, ◌<◌, ◌≤◌, ◌+◌, List, [], length, true, false, ◌↔◌, IsTrue, IfOk, OnOk, OnErr};
+ghost use Rattle.std.specs.Prelude.{◌≡◌, ◌==◌, ◌<◌, ◌≤◌, ◌+◌, ◌∷◌, List, [], length, true, false, ◌↔◌, IsTrue, IfOk, OnOk, OnErr};
 ghost use Rattle.std.specs.Ordering.{is_gt};
 ghost use Rattle.std.specs.List.Sorted.{IsPartitionPoint};
 ghost use Rattle.row.specs.{Cells.row_cmp, Bags.times, Bags.inserted, Bags.removed, Bags.sorted, Bags.IsAscending, Cells.Cells, BagChanges.plus_applied, BagChanges.minus_applied, BagChanges.taken_back, BagChanges.with_gains, BagChanges.with_losses, BagChanges.with_records};
 
 use crate::record::{Record, Sign};
 use crate::row::Row;
-use crate::rows::{Rows, parted};
+use crate::rows::Rows;
 use std::alloc::{AllocError, Global};
 use std::marker::Model;
 use std::mem;
@@ -54,18 +54,26 @@ impl Bag {
         ensures { IfOk result (λ b. b ≡ sorted row_cmp rows.items) }
     {
         rows.sort()?;
-        let rows = Rows::of(alloc, rows)?;
+        let rows = Rows::of(rows);
         Ok(Bag { alloc, rows })
     }
 
-    /// The bag of these rows, which are in order. Errors: memory only. Constant time: it looks at none
-    /// of them.
-    pub fn of_ordered(alloc: Global, rows: Vec<Row>) -> Result<Bag, AllocError>
+    /// The bag of these rows, which are in order. Takes no memory. Constant time: it looks at none of
+    /// them.
+    pub fn of_ordered(alloc: Global, rows: Vec<Row>) -> Bag
         requires { IsAscending row_cmp rows.items }
-        ensures { IfOk result (λ b. b ≡ rows.items) }
+        ensures { result ≡ rows.items }
     {
-        let rows = Rows::of(alloc, rows)?;
-        Ok(Bag { alloc, rows })
+        let rows = Rows::of(rows);
+        Bag { alloc, rows }
+    }
+
+    /// The bag of one row. Takes no memory.
+    pub fn of_one(alloc: Global, row: Row) -> Bag
+        ensures { result ≡ row ∷ [] }
+    {
+        let rows = Rows::One(row);
+        Bag { alloc, rows }
     }
 
     /// The rows in order, each as often as it is in the bag. Constant time.
@@ -151,12 +159,7 @@ impl Bag {
         match rows {
             Rows::None => {}
             Rows::One(row) => self.add(row)?,
-            Rows::Two(rows) => {
-                let (first, last) = parted(rows);
-                self.add(first)?;
-                self.add(last)?;
-            }
-            Rows::Many(rows) => self.add_each(Box::into_inner(rows))?,
+            Rows::Many(rows) => self.add_each(rows)?,
         }
         Ok(())
     }

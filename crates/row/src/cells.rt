@@ -1,8 +1,8 @@
 //! The values of a row, as it keeps them.
-ghost use Rattle.std.specs.Prelude.{◌≡◌, ◌<◌, ◌≤◌, ◌++◌, ◌+◌, ◌∷◌, [], length, map, IfOk, IfSome, OnOk, slice_get};
+ghost use Rattle.std.specs.Prelude.{◌≡◌, ◌<◌, ◌≤◌, ◌++◌, ◌+◌, ◌∷◌, [], length, map, IfOk, IfSome, OnOk, Some, slice_get};
 ghost use Rattle.std.specs.Option.{option_map};
 ghost use Rattle.row.specs.Cells.{Datum, datum_cmp, datum_of};
-ghost use Rattle.row.specs.Packed.{datum_at, datum_in, order_of, packed, whole};
+ghost use Rattle.row.specs.Packed.{datum_at, datum_in, packed, whole};
 
 use crate::value::Value;
 use std::alloc::{AllocError, Global};
@@ -39,7 +39,18 @@ pub(crate) enum Slot<'a> {
     Value(&'a Value),
 }
 
-impl Slot<'_> {
+impl<'a> Slot<'a> {
+    /// The value by itself.
+    #[inline]
+    pub(crate) fn into_cell(self) -> Cell<'a>
+        ensures { datum_in result ≡ datum_at self.entry }
+    {
+        match self {
+            Slot::Number(number) => Cell::Made(value_of(number)),
+            Slot::Value(value) => Cell::Kept(value),
+        }
+    }
+
     /// How the value stands to the other. Takes no memory.
     #[inline]
     pub(crate) fn compare(self, other: Slot<'_>) -> Ordering
@@ -178,25 +189,13 @@ impl Cells {
         }
     }
 
-    /// The value in the column, if there is one.
-    pub(crate) fn get(&self, at: usize) -> Option<Cell<'_>>
-        ensures { option_map datum_in result ≡ slice_get self.now at }
+    /// The number below 2^32 in the column, if there is one.
+    pub(crate) fn number(&self, at: usize) -> Option<u32>
+        ensures { IfSome result (λ n. slice_get self.now at ≡ Some (whole n)) }
     {
-        match self.slot(at) {
-            Some(Slot::Number(number)) => Some(Cell::Made(value_of(number))),
-            Some(Slot::Value(value)) => Some(Cell::Kept(value)),
-            None => None,
-        }
-    }
-
-    /// How the value in the column stands to that of the other row, where both have the column.
-    #[inline]
-    pub(crate) fn order_at(&self, other: &Cells, at: usize) -> Option<Ordering>
-        ensures { result ≡ order_of (slice_get self.now at) (slice_get other.now at) }
-    {
-        match (self.slot(at), other.slot(at)) {
-            (Some(slot), Some(other)) => Some(slot.compare(other)),
-            _ => None,
+        match self.slot(at)? {
+            Slot::Number(number) => Some(number),
+            Slot::Value(value) => small_of(value),
         }
     }
 

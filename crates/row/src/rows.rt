@@ -6,30 +6,25 @@ use crate::row::{Row, copies};
 use std::alloc::{AllocError, Global};
 use std::{mem, slice};
 
-/// A list of rows in two words. One that never had two rows takes no memory, and two lie in one piece
-/// of it.
+/// A list of rows. Up to one takes no memory.
 #[derive(Debug, Drop)]
 pub(crate) enum Rows {
     None,
     One(Row),
-    Two(Box<[Row; 2]>),
-    Many(Box<Vec<Row>>),
+    Many(Vec<Row>),
 }
 
 impl Rows {
-    /// These rows. Errors: memory only. Constant time.
-    pub(crate) fn of(alloc: Global, mut rows: Vec<Row>) -> Result<Rows, AllocError>
-        ensures { IfOk result (λ r. rows_in r ≡ rows.items) }
+    /// These rows. Takes no memory. Constant time.
+    pub(crate) fn of(mut rows: Vec<Row>) -> Rows
+        ensures { rows_in result ≡ rows.items }
     {
-        if rows.len() > 2 {
-            return Ok(Rows::Many(Box::new(alloc, rows)?));
+        if rows.len() > 1 {
+            return Rows::Many(rows);
         }
-        let Some(last) = rows.pop() else {
-            return Ok(Rows::None);
-        };
         match rows.pop() {
-            Some(first) => Ok(Rows::Two(Box::new(alloc, [first, last])?)),
-            None => Ok(Rows::One(last)),
+            Some(row) => Rows::One(row),
+            None => Rows::None,
         }
     }
 
@@ -41,7 +36,6 @@ impl Rows {
         match self {
             Rows::None => &[],
             Rows::One(row) => slice::from_ref(row),
-            Rows::Two(rows) => rows.as_slice(),
             Rows::Many(rows) => rows.as_slice(),
         }
     }
@@ -50,20 +44,16 @@ impl Rows {
     pub(crate) fn try_clone(&self, alloc: Global) -> Result<Rows, AllocError>
         ensures { IfOk result (λ r. rows_in r ≡ rows_in self.now) }
     {
-        match self.as_slice() {
-            [] => Ok(Rows::None),
-            [row] => Ok(Rows::One(row.try_clone(alloc)?)),
-            [first, last] => {
-                let rows = [first.try_clone(alloc)?, last.try_clone(alloc)?];
-                Ok(Rows::Two(Box::new(alloc, rows)?))
-            }
-            rows => Ok(Rows::Many(Box::new(alloc, copies(alloc, rows)?)?)),
+        match self {
+            Rows::None => Ok(Rows::None),
+            Rows::One(row) => Ok(Rows::One(row.try_clone(alloc)?)),
+            Rows::Many(rows) => Ok(Rows::Many(copies(alloc, rows)?)),
         }
     }
 
     /// Puts the row in a place, and those from there on behind it. A list that is full gets room for an
-    /// eighth more than it has, and two besides at most. Errors: memory only; then the rows are as they were. Cost: a move of
-    /// the rows behind, and where the list is full one of all, spread over many.
+    /// eighth more than it has, and one besides. Errors: memory only; then the rows are as they were.
+    /// Cost: a move of the rows behind, and where the list is full one of all, spread over many.
     pub(crate) fn insert(&mut self, alloc: Global, at: usize, row: Row) -> Result<(), AllocError>
         requires { at ≤ length (rows_in self.old) }
         ensures items { OnOk result (rows_in self.new ≡ insert (rows_in self.old) at row) }
@@ -74,18 +64,10 @@ impl Rows {
                 *self = Rows::One(row);
                 Ok(())
             }
-            Rows::One(other) => {
-                let other = other.try_clone(alloc)?;
-                let rows = if at == 0 { [row, other] } else { [other, row] };
-                *self = Rows::Two(Box::new(alloc, rows)?);
-                Ok(())
-            }
-            Rows::Two(_) => {
-                let mut rows = Box::new(alloc, Vec::with_capacity(alloc, 3)?)?;
-                if let Rows::Two(others) = mem::replace(self, Rows::None) {
-                    let (first, last) = parted(others);
-                    rows.push_reserved(first);
-                    rows.push_reserved(last);
+            Rows::One(_) => {
+                let mut rows = Vec::with_capacity(alloc, 2)?;
+                if let Rows::One(other) = mem::replace(self, Rows::None) {
+                    rows.push_reserved(other);
                 }
                 rows.insert(at, row)?;
                 *self = Rows::Many(rows);
@@ -94,7 +76,7 @@ impl Rows {
             Rows::Many(rows) => {
                 let len = rows.len();
                 if len == rows.capacity() {
-                    rows.reserve_exact(more_room(len))?;
+                    rows.reserve_exact(len / 8 + 1)?;
                 }
                 rows.insert(at, row)?;
                 Ok(())
@@ -108,12 +90,13 @@ impl Rows {
         ensures { rows_in self.new ≡ rows_in self.old }
     {
         match self {
-            Rows::None | Rows::One(_) | Rows::Two(_) => Ok(()),
+            Rows::None | Rows::One(_) => Ok(()),
             Rows::Many(rows) => rows.reserve_exact(more),
         }
     }
 
-    /// Takes away the row in a place. Takes no memory. Cost: a move of the rows behind.
+    /// Takes away the row in a place; of a list that has one row left the memory goes. Takes no memory.
+    /// Cost: a move of the rows behind.
     pub(crate) fn remove(&mut self, at: usize)
         requires { at < length (rows_in self.old) }
         ensures items { rows_in self.new ≡ remove (rows_in self.old) at }
@@ -121,31 +104,14 @@ impl Rows {
         match self {
             Rows::None => {}
             Rows::One(_) => *self = Rows::None,
-            Rows::Two(_) => {
-                if let Rows::Two(rows) = mem::replace(self, Rows::None) {
-                    let (first, last) = parted(rows);
-                    *self = Rows::One(if at == 0 { last } else { first });
-                }
-            }
             Rows::Many(rows) => {
                 rows.remove(at);
+                if rows.len() == 1
+                    && let Some(row) = rows.pop()
+                {
+                    *self = Rows::One(row);
+                }
             }
         }
     }
-}
-
-/// For how many rows more a full list of so many gets room: with them it is an odd number, since that
-/// is what a piece of the C library's memory holds, beside the word that it keeps for itself.
-fn more_room(len: usize) -> usize
-    ensures { 0 < result }
-{
-    len / 8 + 1 + (len % 2 + len / 8) % 2
-}
-
-/// Both rows, moved out of their place.
-pub(crate) fn parted(rows: Box<[Row; 2]>) -> (Row, Row)
-    ensures { box_value rows ≡ result.0 ∷ result.1 ∷ [] }
-{
-    let [first, last] = Box::into_inner(rows);
-    (first, last)
 }
