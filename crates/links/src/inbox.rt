@@ -21,6 +21,7 @@ pub struct Unsent<T: Drop> {
 
 impl<T: Drop> Unsent<T> {
     /// The message, with the reason.
+    #[inline(always)]
     pub fn new(refused: Refused, message: T) -> Unsent<T>
         ensures { result ≡ record { refused = refused; message = message } }
     {
@@ -111,6 +112,7 @@ impl<T: Drop> Inbox<T> {
     /// with `UnknownPlace` exactly where there is no such edge, else with `Stopped` once the inbox is
     /// closed and with `NoMemory` for want of room. A refused put leaves the inbox as it was, and
     /// hands the message back. Cost: one lock, and constant time, spread over many.
+    #[inline(always)]
     pub fn put<R: Wait>(&self, rt: &R, edge: usize, message: T) -> Result<(), Unsent<T>>
         ensures back { IfErr result (λ u. u.message ≡ message) }
         ensures unknown { self.now ≤ edge
@@ -121,15 +123,16 @@ impl<T: Drop> Inbox<T> {
         if edge >= self.edges {
             return Err(Unsent::new(Refused::UnknownPlace, message));
         }
-        match self.push(rt, edge, message) {
-            Ok(first) => {
-                if first {
-                    self.wake();
-                }
-                Ok(())
-            }
-            Err(unsent) => Err(unsent),
+        let mut line = self.line.lock(rt);
+        let first = line.put(edge, message)?;
+        if line.is_crowded() {
+            self.crowded.store(true, Ordering::SeqCst);
         }
+        drop(line);
+        if first {
+            self.wake();
+        }
+        Ok(())
     }
 
     // Tells the taker that a message waits. Whoever calls this has given back the lock: a taker that
@@ -149,20 +152,6 @@ impl<T: Drop> Inbox<T> {
     /// than the taker's. It takes no lock.
     pub fn give_way(&self) {
         give_way(&self.crowded);
-    }
-
-    // Whether the message is the first that waits. The lock is free again before the taker is told.
-    fn push<R: Wait>(&self, rt: &R, edge: usize, message: T) -> Result<bool, Unsent<T>>
-        ensures back { IfErr result (λ u. u.message ≡ message) }
-        ensures only { IfErr result (λ u. (u.refused ≡ Refused.NoMemory)
-            ⊎ (u.refused ≡ Refused.Stopped)) }
-    {
-        let mut line = self.line.lock(rt);
-        let put = line.put(edge, message);
-        if line.is_crowded() {
-            self.crowded.store(true, Ordering::SeqCst);
-        }
-        put
     }
 
     /// Whether the taker was told of a message that waits, or the inbox is closed. It takes no lock.

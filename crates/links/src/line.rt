@@ -66,6 +66,7 @@ impl<T: Drop> Line<T> {
     }
 
     /// Puts a message last on an edge, and says whether it is the first of all that wait.
+    #[inline(always)]
     pub fn put(&mut self, edge: usize, message: T) -> Result<bool, Unsent<T>>
         ensures put { OnOk result (self.new ≡ record self.old {
           queues = put_on self.old.queues edge message;

@@ -81,6 +81,7 @@ impl<T: Drop> Queues<T> {
 
     /// Puts a message last on an edge. Refused for want of memory: then the queues stay, and the
     /// message is handed back. Cost: constant, spread over many.
+    #[inline(always)]
     pub fn put(&mut self, edge: usize, message: T) -> Result<(), AllocFailed<T>>
         requires edge { edge < length self.old }
         ensures last { OnOk result (self.new ≡ put_on self.old edge message) }
@@ -119,11 +120,20 @@ impl<T: Drop> Waiting<T> {
         first
     }
 
+    // Makes room first, so that a message that has room is moved to its place at once, and is in no
+    // result.
+    #[inline(always)]
     fn put(&mut self, message: T) -> Result<(), AllocFailed<T>>
         ensures last { self.new ≡ (if is_ok result then self.old ++ message ∷ [] else self.old) }
         ensures back { IfErr result (λ f. f.value ≡ message) }
     {
-        self.messages.push_back(message)
+        match self.messages.reserve(1) {
+            Ok(()) => {
+                self.messages.push_back_reserved(message);
+                Ok(())
+            }
+            Err(_) => Err(AllocFailed { value: message }),
+        }
     }
 
     fn len(&self) -> usize
