@@ -1,10 +1,7 @@
 -- A shown copy after a change that leads from what was held to what is held.
 use Rattle.std.proofs.Common.{◌≡◌, ◌≢◌, ℕ, zero, suc, Bool, true, false, cond, if◌then◌else◌, not, List, [], ◌∷◌, Option, Some, None, IfSome, fold, map, length, slice_get, slice_set, refl, ap, sym, ◌∙◌, subst, arith, ◌⊎◌, inl, inr}
-use Rattle.std.specs.Option.{option_map}
-use Rattle.row.specs.BagChanges.{with_records}
 use Rattle.row.specs.Cells.{Datum, datum_of, same}
 use Rattle.row.specs.Groups.{equal}
-use Rattle.row.specs.declared.record.Record.{Record}
 use Rattle.row.specs.declared.refused.Refused.{Refused}
 use Rattle.row.specs.declared.refused.Refused.TheVariants.{NoMemory, Gap}
 use Rattle.row.specs.declared.value.Value.{Value}
@@ -25,14 +22,14 @@ use Rattle.partial.specs.States.{is_hole}
 use Rattle.protocol.specs.Views.{View, ToView, packet, want, order}
 use Rattle.protocol.specs.ViewSteps.{step, begins, quiet}
 use Rattle.protocol.specs.WorldSteps.{lengths_of}
-use Rattle.shown.specs.Snapshots.{Rows, Snapshot, IsLater, IsTrue, after, lengths_with, shown_at, turned, with_change, without}
+use Rattle.shown.specs.Snapshots.{Rows, Snapshot, IsLater, IsTrue, after, lengths_with, shown_at, with_change, without}
 use Rattle.view_domain.specs.Domains.{Domain, lines_of, stopped}
 use Rattle.view_domain.specs.Outboxes.{OutboxView, ShownView, put_line}
 use Rattle.view_domain.specs.Received.{AreAnswers, Fails, IsNext, IsNextLine, IsShown}
 use Rattle.view_domain.specs.Shown.{key_in, shown_after}
 use Rattle.view_domain.specs.Shown.{turned as turned_by}
 use Rattle.view_domain.specs.declared.shown.KeyChange.{KeyChange}
-use Rattle.view_domain.specs.declared.shown.KeyChange.TheVariants.{Fills, Turns, Goes}
+use Rattle.view_domain.specs.declared.shown.KeyChange.TheVariants.{Fills, Goes}
 use Rattle.domain_turns.specs.ViewTurns.{Shows}
 
 -- ---- keys
@@ -52,32 +49,6 @@ without_other k d (r ∷ rs) e = by (same d r.0) refl (without_other k d rs e)
     by true h rest = rest ∙ ap (λ c. cond c (Some r.1) (shown_at rs k)) (sym (ap (same k) (sym (same_is d r.0 h)) ∙ e))
     by false h rest = ap (cond (same k r.0) (Some r.1)) rest
 
-turned_same : (k d : Datum) (records : List Record) (rows : Rows) → same k d ≡ true → shown_at (turned d records rows) k ≡ option_map (λ e. with_records e records) (shown_at rows k)
-turned_same k d records [] e = refl
-turned_same k d records (r ∷ rs) e = by (same k r.0) refl (turned_same k d records rs e)
-  where
-    flip : same d r.0 ≡ same k r.0
-    flip = ap (λ x. same x r.0) (sym (same_is k d e))
-
-    by : (b : Bool) → same k r.0 ≡ b → shown_at (turned d records rs) k ≡ option_map (λ e. with_records e records) (shown_at rs k)
-        → shown_at (cond (same d r.0) (r.0, with_records r.1 records) r ∷ turned d records rs) k ≡ option_map (λ e. with_records e records) (cond b (Some r.1) (shown_at rs k))
-    by true h rest =
-        ap (λ c. shown_at (cond c (r.0, with_records r.1 records) r ∷ turned d records rs) k) (flip ∙ h)
-        ∙ ap (λ c. cond c (Some (with_records r.1 records)) (shown_at (turned d records rs) k)) h
-    by false h rest =
-        ap (λ c. shown_at (cond c (r.0, with_records r.1 records) r ∷ turned d records rs) k) (flip ∙ h)
-        ∙ (ap (λ c. cond c (Some r.1) (shown_at (turned d records rs) k)) h ∙ rest)
-
-turned_other : (k d : Datum) (records : List Record) (rows : Rows) → same k d ≡ false → shown_at (turned d records rows) k ≡ shown_at rows k
-turned_other k d records [] e = refl
-turned_other k d records (r ∷ rs) e = by (same d r.0) refl (turned_other k d records rs e)
-  where
-    by : (b : Bool) → same d r.0 ≡ b → shown_at (turned d records rs) k ≡ shown_at rs k → shown_at (cond b (r.0, with_records r.1 records) r ∷ turned d records rs) k ≡ cond (same k r.0) (Some r.1) (shown_at rs k)
-    by true h rest =
-        let other : same k r.0 ≡ false = ap (same k) (sym (same_is d r.0 h)) ∙ e in
-        ap (λ c. cond c (Some (with_records r.1 records)) (shown_at (turned d records rs) k)) other ∙ (rest ∙ ap (λ c. cond c (Some r.1) (shown_at rs k)) (sym other))
-    by false h rest = ap (cond (same k r.0) (Some r.1)) rest
-
 key_is : (key k : Value) → equal key k ≡ same (datum_of k) (datum_of key)
 key_is key k = eq-value_is key k ∙ same_flip (datum_of key) (datum_of k)
 
@@ -86,8 +57,6 @@ change_shown rows (Fills key rs) k true e = ap (λ c. cond c (Some rs) (shown_at
 change_shown rows (Fills key rs) k false e =
     let other : same (datum_of k) (datum_of key) ≡ false = sym (key_is key k) ∙ e in
     ap (λ c. cond c (Some rs) (shown_at (without (datum_of key) rows) (datum_of k))) other ∙ without_other (datum_of k) (datum_of key) rows other
-change_shown rows (Turns key records) k true e = turned_same (datum_of k) (datum_of key) records rows (sym (key_is key k) ∙ e)
-change_shown rows (Turns key records) k false e = turned_other (datum_of k) (datum_of key) records rows (sym (key_is key k) ∙ e)
 change_shown rows (Goes key) k true e = without_same (datum_of k) (datum_of key) rows (sym (key_is key k) ∙ e)
 change_shown rows (Goes key) k false e = without_other (datum_of k) (datum_of key) rows (sym (key_is key k) ∙ e)
 

@@ -2,10 +2,9 @@
 use Rattle.view_domain.specs.declared.shown.KeyChange.{KeyChange}
 use Rattle.view_domain.specs.declared.shown.KeyChange.TheVariants as told
 use Rattle.shown.specs.declared.delta.SharedChange.{SharedChange}
-use Rattle.shown.specs.declared.delta.SharedChange.TheVariants.{Fills, Turns, Goes}
+use Rattle.shown.specs.declared.delta.SharedChange.TheVariants.{Fills, Goes}
 
 -- the change that was told
 abbrev pub change_of : SharedChange → KeyChange
 change_of (Fills key rows) = told.Fills key rows
-change_of (Turns key records) = told.Turns key records
 change_of (Goes key) = told.Goes key

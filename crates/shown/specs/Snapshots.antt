@@ -1,9 +1,7 @@
 -- What a shown copy shows.
-use Rattle.std.specs.Prelude.{◌≡◌, ℕ, cond, not, List, ◌∷◌, [], Option, Some, None, IfSome, filter, fold, map, length, replicate, slice_set}
+use Rattle.std.specs.Prelude.{◌≡◌, ℕ, not, List, ◌∷◌, [], Option, Some, None, IfSome, filter, fold, map, length, replicate, slice_set}
 use Rattle.std.specs.Map.{lookup}
-use Rattle.row.specs.BagChanges.{with_records}
 use Rattle.row.specs.Cells.{Datum, Cells, datum_of, same}
-use Rattle.row.specs.declared.record.Record.{Record}
 use Rattle.row.specs.declared.value.Value.{Value}
 use Rattle.plan.specs.Layouts.{Layout}
 use Rattle.model.specs.Cuts.{IsAtMost}
@@ -14,7 +12,7 @@ use Rattle.model.specs.Queries.{Line, answer}
 use Rattle.packet.specs.Lines.{entries_of, lengths_of}
 use Rattle.view_domain.specs.Outboxes.{ShownView, put_line}
 use Rattle.view_domain.specs.declared.shown.KeyChange.{KeyChange}
-use Rattle.view_domain.specs.declared.shown.KeyChange.TheVariants.{Fills, Turns, Goes}
+use Rattle.view_domain.specs.declared.shown.KeyChange.TheVariants.{Fills, Goes}
 use Rattle.shown.specs.declared.delta.Delta.{Delta}
 use Rattle.shown.specs.declared.delta.Delta.TheVariants.{Key, Moves, Asks}
 
@@ -54,14 +52,9 @@ first_of p view shard = record {
 abbrev pub without : Datum → Rows → Rows
 without k rows = filter (λ (e : Datum × List Cells). not (same k e.0)) rows
 
--- the rows with the records of a key, where it is shown
-abbrev pub turned : Datum → List Record → Rows → Rows
-turned k records rows = map (λ (e : Datum × List Cells). cond (same k e.0) (e.0, with_records e.1 records) e) rows
-
 -- the rows after a change of a key
 abbrev pub with_change : Rows → KeyChange → Rows
 with_change rows (Fills key rs) = (datum_of key, rs) ∷ without (datum_of key) rows
-with_change rows (Turns key records) = turned (datum_of key) records rows
 with_change rows (Goes key) = without (datum_of key) rows
 
 -- what is shown after a step of a change

@@ -4,10 +4,9 @@ ghost use Rattle.packet.specs.Lines.{AreOf};
 ghost use Rattle.shown.specs.Snapshots.{with_change};
 
 use crate::entries::Entries;
-use crate::rows::KeyRows;
+use crate::rows::SharedRows;
 use book::front::Front;
 use book::law::Naming;
-use packet::groups::Group;
 use packet::line::Line;
 use row::value::Value;
 use std::alloc::{AllocError, Global};
@@ -47,10 +46,8 @@ impl<J: Naming> Moved<J> {
 /// What becomes of a key, with rows that copies can share.
 #[derive(Drop)]
 enum SharedChange {
-    /// It is filled with these rows.
-    Fills { key: Value, rows: KeyRows },
-    /// Its rows change by these records.
-    Turns { key: Value, records: Group },
+    /// Its rows are these.
+    Fills { key: Value, rows: SharedRows },
     /// It is shown no longer.
     Goes { key: Value },
 }
@@ -77,28 +74,22 @@ impl Model for KeyStep {
 }
 
 impl KeyStep {
-    /// The step of this change. The rows that fill a key are striped, or are not (`KeyRows`).
-    /// Errors: memory only. No row is copied.
-    pub(crate) fn new(
-        alloc: Global,
-        change: KeyChange,
-        is_striped: bool,
-    ) -> Result<KeyStep, AllocError>
+    /// The step of this change. Errors: memory only. No row is copied.
+    pub(crate) fn new(alloc: Global, change: KeyChange) -> Result<KeyStep, AllocError>
         ensures { IfOk result (λ s. s ≡ change) }
     {
         let step = match change {
             KeyChange::Fills { key, rows } => SharedChange::Fills {
                 key,
-                rows: KeyRows::new(alloc, rows, is_striped)?,
+                rows: SharedRows::new(alloc, rows)?,
             },
-            KeyChange::Turns { key, records } => SharedChange::Turns { key, records },
             KeyChange::Goes { key } => SharedChange::Goes { key },
         };
         Ok(KeyStep { step })
     }
 
-    /// Changes the shown keys. A key that is filled shares the rows of the step. Errors: memory
-    /// only; then all is as it was. Constant time, and that of `KeyRows::apply`.
+    /// Changes the shown keys. A key shares the rows of the step. Errors: memory, or 2^32 - 1 keys are
+    /// shown; then all is as it was. Constant time.
     pub(crate) fn apply(&self, alloc: Global, shown: &mut Entries) -> Result<(), AllocError>
         ensures applied { OnOk result (shown.new ≡ with_change shown.old self.now) }
         ensures err { OnErr result (shown.new ≡ shown.old) }
@@ -107,7 +98,6 @@ impl KeyStep {
             SharedChange::Fills { key, rows } => {
                 shown.put(key.try_clone(alloc)?, rows.try_clone(alloc)?)
             }
-            SharedChange::Turns { key, records } => shown.turn(alloc, key, records.records()),
             SharedChange::Goes { key } => {
                 shown.remove(key);
                 Ok(())

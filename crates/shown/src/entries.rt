@@ -2,11 +2,10 @@
 ghost use Rattle.std.specs.Prelude.{◌≡◌, ◌∷◌, [], OnOk, OnErr};
 ghost use Rattle.std.specs.Option.{option_copied};
 ghost use Rattle.row.specs.Cells.{datum_of};
-ghost use Rattle.shown.specs.Snapshots.{shown_at, turned, without};
+ghost use Rattle.shown.specs.Snapshots.{shown_at, without};
 
-use crate::rows::KeyRows;
+use crate::rows::SharedRows;
 use linked_map::map::LinkedMap;
-use row::record::Record;
 use row::value::Value;
 use std::alloc::{AllocError, Global};
 use std::marker::Model;
@@ -14,7 +13,7 @@ use std::marker::Model;
 /// Keys with their rows, each key once.
 #[derive(Drop)]
 pub struct Entries {
-    map: LinkedMap<Value, KeyRows>,
+    map: LinkedMap<Value, SharedRows>,
 }
 
 impl Model for Entries {
@@ -36,7 +35,7 @@ impl Entries {
     }
 
     /// The rows of a key, where it is there. Takes no memory. Constant time.
-    pub fn get(&self, key: &Value) -> Option<&KeyRows>
+    pub fn get(&self, key: &Value) -> Option<&SharedRows>
         ensures { option_copied result ≡ shown_at self.now (datum_of key.now) }
     {
         self.map.peek(key)
@@ -44,7 +43,7 @@ impl Entries {
 
     /// Puts in a key with its rows, in the place of what was there of it. Errors: memory, or 2^32 - 1
     /// keys are there; then all is as it was. Constant time, spread over many.
-    pub fn put(&mut self, key: Value, rows: KeyRows) -> Result<(), AllocError>
+    pub fn put(&mut self, key: Value, rows: SharedRows) -> Result<(), AllocError>
         ensures put { OnOk result (self.new
             ≡ (datum_of key, rows) ∷ without (datum_of key) self.old) }
         ensures err { OnErr result (self.new ≡ self.old) }
@@ -52,19 +51,6 @@ impl Entries {
         let _ = self.map.len();
         self.map.put(key, rows)?;
         Ok(())
-    }
-
-    /// Changes the rows of a key by records, where it is there. Errors: memory only; then all is as
-    /// it was. Constant time, and that of `KeyRows::apply`.
-    pub fn turn(&mut self, alloc: Global, key: &Value, records: &[Record]) -> Result<(), AllocError>
-        ensures turned { OnOk result (self.new ≡ turned (datum_of key.now) records.now self.old) }
-        ensures err { OnErr result (self.new ≡ self.old) }
-    {
-        let _ = self.map.len();
-        match self.map.peek_mut(key) {
-            Some(rows) => rows.apply(alloc, records),
-            None => Ok(()),
-        }
     }
 
     /// Takes a key out, where it is there. Takes no memory. Constant time.

@@ -23,7 +23,6 @@ pub struct ShownReader<J: Naming> {
     reader: Reader<Shown<J>, Sight, Published>,
     view: usize,
     shard: usize,
-    stripe: usize,
 }
 
 impl<J: Naming> Model for ShownReader<J> {
@@ -53,7 +52,6 @@ impl<J: Naming> ShownReader<J> {
         reader: Reader<Shown<J>, Sight, Published>,
         view: usize,
         shard: usize,
-        stripe: usize,
     ) -> Result<ShownReader<J>, AllocError>
         ensures view { IfOk result (λ r. r.view ≡ view) }
         ensures shard { IfOk result (λ r. r.shard ≡ shard) }
@@ -71,27 +69,23 @@ impl<J: Naming> ShownReader<J> {
             reader,
             view,
             shard,
-            stripe,
         })
     }
 
-    /// One more reader of the same copy, of a stripe, which has looked once. There are four stripes;
-    /// a greater number is taken modulo four. Refused where the writer is gone, or each place for a
-    /// reader was found in use.
-    pub fn another(&self, stripe: usize) -> Result<ShownReader<J>, AllocError>
+    /// One more reader of the same copy, which has looked once. Refused where the writer is gone, or
+    /// each place for a reader was found in use.
+    pub fn another(&self) -> Result<ShownReader<J>, AllocError>
         ensures view { IfOk result (λ r. r.view ≡ self.now.view) }
         ensures shard { IfOk result (λ r. r.shard ≡ self.now.shard) }
     {
         let reader = self.reader.factory().reader()?;
-        ShownReader::over(reader, self.view, self.shard, stripe)
+        ShownReader::over(reader, self.view, self.shard)
     }
 
     /// Looks a key up in what is shown, which is true and no less than what it has seen: a hit has
     /// the rows and the cut of one look, a miss says that the key was not shown. It waits for
     /// nobody. Errors: `NoMemory`, also where the writer is gone; it may then have seen more. Cost:
-    /// one look-up by hash, a step on a count of the key's rows, and a copy of the cut. Where the
-    /// rows have changed since the key was filled all readers step on that count, else those of its
-    /// stripe.
+    /// one look-up by hash, a step on the count of the key's rows, and a copy of the cut.
     #[inline(always)]
     pub fn look(&mut self, alloc: Global, key: &Value) -> Result<Look<J>, Refused>
         ensures later { IsLater self.old self.new }
@@ -102,9 +96,9 @@ impl<J: Naming> ShownReader<J> {
         ensures miss { IfOk result (OnMiss (shown_at self.new.rows (datum_of key.now) ≡ None)) }
         ensures only { IfErr result (λ e. e ≡ Refused.NoMemory) }
     {
-        let (view, shard, stripe) = (self.view, self.shard, self.stripe);
+        let (view, shard) = (self.view, self.shard);
         replace_with(&mut self.reader, (alloc, key), |reader, (alloc, key)| {
-            look_by(reader, alloc, key, view, shard, stripe)
+            look_by(reader, alloc, key, view, shard)
         })
     }
 
@@ -145,7 +139,6 @@ fn look_by<J: Naming>(
     key: &Value,
     view: usize,
     shard: usize,
-    stripe: usize,
 ) -> (Reader<Shown<J>, Sight, Published>, Result<Look<J>, Refused>)
     requires of { IsOf view shard (sight_of reader.place) }
     ensures looked { HasLooked view shard (sight_of reader.place) (sight_of result.0.place) }
@@ -161,7 +154,7 @@ fn look_by<J: Naming>(
     match reader.enter_as::<Looks>() {
         Err(reader) => (reader, Err(Refused::NoMemory)),
         Ok(reading) => {
-            let found = found(alloc, reading.get(), key, stripe);
+            let found = found(alloc, reading.get(), key);
             (reading.leave(), found)
         }
     }
@@ -212,12 +205,7 @@ fn asked_by<J: Naming>(
 
 // The key's entry and a copy of the cut.
 #[inline(always)]
-fn found<J: Naming>(
-    alloc: Global,
-    shown: &Shown<J>,
-    key: &Value,
-    stripe: usize,
-) -> Result<Look<J>, Refused>
+fn found<J: Naming>(alloc: Global, shown: &Shown<J>, key: &Value) -> Result<Look<J>, Refused>
     ensures hit { IfOk result (OnHit (λ rows cut.
         (shown_at shown.now.rows (datum_of key.now) ≡ Some rows)
         × (cut.lengths ≡ shown.now.lengths) × (fronts J.plan cut ≡ shown.now.cut))) }
@@ -227,6 +215,6 @@ fn found<J: Naming>(
     let Some(rows) = shown.entry(key) else {
         return Ok(Look::Miss);
     };
-    let rows = rows.stripe(stripe).try_clone(alloc)?;
+    let rows = rows.try_clone(alloc)?;
     Ok(Look::Hit(rows, shown.cut().try_clone(alloc)?))
 }

@@ -8,7 +8,7 @@ ghost use Rattle.shown.specs.Snapshots.{first_of, shown_at, with_change};
 
 use crate::delta::{Delta, KeyStep, Moved};
 use crate::entries::Entries;
-use crate::rows::KeyRows;
+use crate::rows::SharedRows;
 use crate::rule::Shot;
 use book::cut::Cut;
 use book::law::Naming;
@@ -69,7 +69,7 @@ impl<J: Naming> Shown<J> {
     }
 
     /// The rows of a key, where it is shown. Takes no memory. Constant time.
-    pub fn entry(&self, key: &Value) -> Option<&KeyRows>
+    pub fn entry(&self, key: &Value) -> Option<&SharedRows>
         ensures { option_copied result ≡ shown_at self.now.rows (datum_of key.now) }
     {
         self.rows.get(key)

@@ -26,18 +26,12 @@ use view_domain::shown::{KeyChange, ShownChange};
 pub struct Board<T: Absorb<O> + Drop, O: Drop, V, P: Protocol<T, V>, R: Wait + Drop> {
     writer: Writer<T, O, V, P>,
     rt: R,
-    // Whether the rows that fill a key are striped (`KeyRows`).
-    is_striped: bool,
 }
 
 impl<T: Absorb<O> + Drop, O: Drop, V, P: Protocol<T, V>, R: Wait + Drop> Drop
     for Board<T, O, V, P, R> {
     fn drop(self) {
-        let Self {
-            writer,
-            rt,
-            is_striped: _,
-        } = self;
+        let Self { writer, rt } = self;
         drop(writer.take(&rt));
     }
 }
@@ -46,8 +40,7 @@ impl<T: Absorb<O> + Drop, O: Drop, V, P: Protocol<T, V>, R: Wait + Drop> Drop
 pub type ShownWriter<J, R> = Board<Shown<J>, Delta<J>, Sight, Published, R>;
 
 /// The shown copy of a shard of a view, by the one right to it: it shows no key, over no entries,
-/// and has places for this many readers. Where those are more than two, one of a session and one
-/// that others are made from, rows are striped. Errors: memory only.
+/// and has places for this many readers. Errors: memory only.
 pub fn open<J: Naming, R: Wait + Drop>(
     rt: R,
     alloc: Global,
@@ -65,11 +58,7 @@ pub fn open<J: Naming, R: Wait + Drop>(
     let first = Shown::new(alloc, plan, view, shard, part)?;
     let second = Shown::new(alloc, plan, view, shard, part)?;
     let writer = Writer::new(alloc, first, second, readers)?;
-    Ok(Board {
-        writer,
-        rt,
-        is_striped: readers > 2,
-    })
+    Ok(Board { writer, rt })
 }
 
 impl<J: Naming, R: Wait + Drop> ShownWriter<J, R> {
@@ -85,15 +74,13 @@ impl<J: Naming, R: Wait + Drop> ShownWriter<J, R> {
         let (view, shard) = (shown.view, shown.shard);
         let mut reader = self.writer.factory().reader()?;
         reader.learn::<Tells>(self.writer.tell::<Tells>());
-        ShownReader::over(reader, view, shard, 0)
+        ShownReader::over(reader, view, shard)
     }
 
     /// Shows a change: what a view's shard tells of one message. It waits for readers that still
     /// look at the copy behind, applies the change to it, and turns readers to it. Errors: memory
-    /// only; readers then see what they saw. Cost: a key that is filled is put into both copies,
-    /// which share its rows; each record is applied to both, and where rows are still shared, by
-    /// the copies or with an answer, after a copy of their bag; and a look at the place of each
-    /// reader.
+    /// only; readers then see what they saw. Cost: a key that is filled, or whose rows have changed,
+    /// is put into both copies, which share its rows; and a look at the place of each reader.
     pub fn show(&mut self, alloc: Global, change: ShownChange<Front<J>>) -> Result<(), AllocError>
         requires idle { pending self.old ≡ [] }
         requires stage { IfSome change.line (λ _. change.stage < J.plan.stages) }
@@ -111,8 +98,8 @@ impl<J: Naming, R: Wait + Drop> ShownWriter<J, R> {
         self.publish()
     }
 
-    // Puts what becomes of keys behind what is not published yet. The rows that fill a key are made
-    // here, for both copies.
+    // Puts what becomes of keys behind what is not published yet. The rows of a key are made here, for
+    // both copies.
     fn append_keys(&mut self, alloc: Global, keys: Vec<KeyChange>) -> Result<(), AllocError>
         ensures ahead { OnOk result (ahead (state self.new) ≡ record (ahead (state self.old)) {
           rows = fold with_change (ahead (state self.old)).rows keys.items;
@@ -120,7 +107,7 @@ impl<J: Naming, R: Wait + Drop> ShownWriter<J, R> {
         ensures shown { shown self.new ≡ shown self.old }
     {
         for key in keys {
-            let step = KeyStep::new(alloc, key, self.is_striped)?;
+            let step = KeyStep::new(alloc, key)?;
             self.append(Delta::Key(step))?;
         }
         Ok(())

@@ -147,7 +147,7 @@ impl<J: Naming + Send + Sync + 'static> System<J> {
         let routes = Arc::try_clone(self.domains.routes())?;
         Ok(Parts {
             accepted: vec![in alloc; None; routes.book().bases()]?,
-            readers: others(alloc, self.readers.as_slice(), self.given)?,
+            readers: others(alloc, self.readers.as_slice())?,
             routes,
         })
     }
@@ -176,17 +176,16 @@ struct Parts<J: Naming> {
     routes: Arc<Routes<J>>,
 }
 
-// One more reader of each of the same copies; sessions take copies of rows by stripes, in turn.
+// One more reader of each of the same copies.
 fn others<J: Naming>(
     alloc: Global,
     readers: &[ShownReader<J>],
-    session: usize,
 ) -> Result<Vec<ShownReader<J>>, AllocError>
     ensures { IfOk result (λ v. map reader_of v.items ≡ map reader_of readers.now) }
 {
     let mut all = Vec::with_capacity(alloc, readers.len())?;
     for reader in readers {
-        all.push(reader.another(session)?)?;
+        all.push(reader.another()?)?;
     }
     Ok(all)
 }

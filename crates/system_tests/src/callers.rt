@@ -95,8 +95,7 @@ fn an_answer_that_another_session_keeps(rt: HostRuntime) -> Result<(), Fail> {
 
 const SHOWN_BESIDE: &[Step] = &[(Call::TryRead(7), Ok(Told::Rows(3, 3)))];
 
-// An answer of a second session, which counts the rows of a key by another stripe, keeps its row
-// while the first session adds two.
+// An answer of a second session keeps its row while the first session adds two.
 pub fn calls_of_kept_beside<
     J: Naming + Send + Sync + 'static,
     R: Threads + Wait + Copy + Drop + Send + 'static,

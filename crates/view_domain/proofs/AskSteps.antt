@@ -36,7 +36,7 @@ module _ (old new : Store) (copy key : Value) (is_key : datum_of copy ≡ datum_
 
   -- nothing is told of it
   pub begun_shown : LeadsTo (rows_at old) [] new
-  begun_shown = leads_same old new copy others (rows_at old) [] (ap entry_of own ∙ begun_entry (state_of equal old copy)) (record { each = λ k. refl; fits = λ k. tt })
+  begun_shown = leads_same old new copy others (rows_at old) [] (ap entry_of own ∙ begun_entry (state_of equal old copy)) (record { each = λ k. refl })
 
   idle : (st : State (List Cells)) → is_hole st ≡ false → begun n st ≡ st
   idle Hole h = absurd (true≢false h)

@@ -92,7 +92,7 @@ open_done d k new out s running stands clear count shown = record {
 }
 
 pub nothing_told : (first : Value → Option (List Cells)) (told : List KeyChange) (kept : Store) → told ≡ [] → ((key : Value) → rows_at kept key ≡ first key) → LeadsTo first told kept
-nothing_told first told kept none stays = rw none (record { each = stays; fits = λ k. tt })
+nothing_told first told kept none stays = rw none (record { each = stays })
 
 idle_done : (d : Domain) (k : Datum) (new : Store) (out : OutboxView) (b : Bool) → is_hole ((stands_of d.kept).at k) ≡ b → b ≡ false → d.mode ≡ mode.Running → stands_of new ≡ stands_of d.kept → IsClear out → length out.requests ≡ d.plan.stages → LeadsTo (rows_at d.kept) [] new
     → IsDone (want k) (cond b (begins (view_of d) k) (quiet (view_of d) (stands_of d.kept))) d out (record d { kept = new })

@@ -1,5 +1,5 @@
 -- What is kept at each key after a call that changes one.
-use Rattle.std.proofs.Common.{◌≡◌, ℕ, zero, suc, Bool, true, false, cond, ◌++◌, List, [], ◌∷◌, Option, Some, None, slice_get, refl, ap, sym, ◌∙◌, subst}
+use Rattle.std.proofs.Common.{◌≡◌, ℕ, zero, suc, Bool, true, false, cond, ◌++◌, List, [], ◌∷◌, Option, Some, None, slice_get, refl, ap, sym, ◌∙◌}
 use Rattle.std.proofs.lemmas.List.{append-nil}
 use Rattle.row.specs.Cells.{Datum, Cells, datum_of}
 use Rattle.row.specs.Groups.{equal}
@@ -13,12 +13,12 @@ use Rattle.packet.proofs.KeptKeys.{stand_is, blank}
 use Rattle.protocol.specs.ViewSteps.{again}
 use Rattle.view_domain.specs.declared.shown.KeyChange.{KeyChange}
 use Rattle.view_domain.specs.declared.shown.KeyChange.TheVariants.{Goes}
-use Rattle.view_domain.specs.Shown.{key_in, turned, shown_after, FitsShown, FitAll, rows_at, gone_by, asked_by, LeadsTo}
+use Rattle.view_domain.specs.Shown.{key_in, turned, shown_after, rows_at, gone_by, asked_by, LeadsTo}
 
 module _ (old new : Store) (key : Value) (others : OthersStay equal key old new) where
   -- what was shown leads there, where no entry has changed
   pub leads_same : (first : Value → Option (List Cells)) (cs : List KeyChange) → entry_of (state_of equal new key) ≡ entry_of (state_of equal old key) → LeadsTo first cs old → LeadsTo first cs new
-  leads_same first cs stays h = record { each = λ k. step k (equal key k) refl ∙ h.each k; fits = h.fits }
+  leads_same first cs stays h = record { each = λ k. step k (equal key k) refl ∙ h.each k }
     where
       step : (k : Value) (b : Bool) → equal key k ≡ b → entry_of (state_of equal new k) ≡ entry_of (state_of equal old k)
       step k true e = ap entry_of (sym (state_same new key k e)) ∙ (stays ∙ ap entry_of (state_same old key k e))
@@ -28,18 +28,11 @@ shown_push : (cs : List KeyChange) (c : KeyChange) (key : Value) (o : Option (Li
 shown_push [] c key o = refl
 shown_push (q ∷ qs) c key o = shown_push qs c key (cond (equal (key_in q) key) (turned q o) o)
 
-fits_push : (cs : List KeyChange) (c : KeyChange) (key : Value) (o : Option (List Cells)) → FitAll cs key o → (equal (key_in c) key ≡ true → FitsShown c (shown_after cs key o)) → FitAll (cs ++ c ∷ []) key o
-fits_push [] c key o h fit = (fit, tt)
-fits_push (q ∷ qs) c key o h fit = (h.0, fits_push qs c key (cond (equal (key_in q) key) (turned q o) o) h.1 fit)
-
 module _ (old new : Store) (c : KeyChange) (others : OthersStay equal (key_in c) old new) where
   -- it leads there with the change of one key, and no other has changed
-  pub leads_push : (first : Value → Option (List Cells)) (cs : List KeyChange) → entry_of (state_of equal new (key_in c)) ≡ turned c (entry_of (state_of equal old (key_in c))) → FitsShown c (entry_of (state_of equal old (key_in c)))
+  pub leads_push : (first : Value → Option (List Cells)) (cs : List KeyChange) → entry_of (state_of equal new (key_in c)) ≡ turned c (entry_of (state_of equal old (key_in c)))
       → LeadsTo first cs old → LeadsTo first (cs ++ c ∷ []) new
-  leads_push first cs turn fit h = record {
-    each = λ k. sym (shown_push cs c k (first k) ∙ step k (equal (key_in c) k) refl);
-    fits = λ k. fits_push cs c k (first k) (h.fits k) (λ e. subst (FitsShown c) (ap entry_of (state_same old (key_in c) k e) ∙ h.each k) fit);
-  }
+  leads_push first cs turn h = record { each = λ k. sym (shown_push cs c k (first k) ∙ step k (equal (key_in c) k) refl) }
     where
       step : (k : Value) (b : Bool) → equal (key_in c) k ≡ b → cond b (turned c (shown_after cs k (first k))) (shown_after cs k (first k)) ≡ rows_at new k
       step k true e = ap (turned c) (sym (h.each k)) ∙ (ap (λ st. turned c (entry_of st)) (sym (state_same old (key_in c) k e)) ∙ (sym turn ∙ ap entry_of (state_same new (key_in c) k e)))
@@ -77,7 +70,7 @@ leads_evicted first cs old new key source what says own others h = by what says
     by : (w : Evicted) → w ≡ says_evicted source (state_of equal old key) → LeadsTo first (cs ++ gone_by w key) new
     by said.Nothing e = rw (append-nil cs) (leads_same old new key others first cs (now ∙ sym (by_nothing source (state_of equal old key) e)) h)
     by said.Piece e = rw (append-nil cs) (leads_same old new key others first cs (now ∙ sym (by_piece source (state_of equal old key) e)) h)
-    by said.Entry e = leads_push old new (Goes key) others first cs now tt h
+    by said.Entry e = leads_push old new (Goes key) others first cs now h
 
 here_is : (pieces : List (Option (List Cells))) (s : ℕ) → is_here (slice_get (blank pieces) s) ≡ is_here (slice_get pieces s)
 here_is [] s = refl

@@ -1,27 +1,22 @@
 -- What a view shard tells its shown copy of keys.
-use Rattle.std.specs.Prelude.{◌≡◌, true, List, [], ◌∷◌, Option, Some, None, if◌then◌else◌}
-use Rattle.std.specs.Option.{option_map}
+use Rattle.std.specs.Prelude.{◌≡◌, List, [], ◌∷◌, Option, Some, None, if◌then◌else◌}
 use Rattle.row.specs.Cells.{Datum, Cells}
-use Rattle.row.specs.BagChanges.{with_records}
-use Rattle.row.specs.Changes.{IsCovered}
 use Rattle.row.specs.Groups.{equal}
 use Rattle.row.specs.declared.value.Value.{Value}
 use Rattle.partial.specs.States.{Kept, state_of, entry_of}
 use Rattle.partial.specs.declared.partial.Evicted.{Evicted}
 use Rattle.partial.specs.declared.partial.Evicted.TheVariants as said
 use Rattle.view_domain.specs.declared.shown.KeyChange.{KeyChange}
-use Rattle.view_domain.specs.declared.shown.KeyChange.TheVariants.{Fills, Turns, Goes}
+use Rattle.view_domain.specs.declared.shown.KeyChange.TheVariants.{Fills, Goes}
 
 -- the key that the change is of
 abbrev pub key_in : KeyChange → Value
 key_in (Fills key rows) = key
-key_in (Turns key records) = key
 key_in (Goes key) = key
 
 -- what is shown of it after the change
 abbrev pub turned : KeyChange → Option (List Cells) → Option (List Cells)
 turned (Fills key rows) shown = Some rows
-turned (Turns key records) shown = option_map (λ e. with_records e records) shown
 turned (Goes key) shown = None
 
 -- what is shown of a key after the changes, one after the other
@@ -29,17 +24,10 @@ abbrev pub shown_after : List KeyChange → Value → Option (List Cells) → Op
 shown_after [] key shown = shown
 shown_after (c ∷ cs) key shown = shown_after cs key (if equal (key_in c) key then turned c shown else shown)
 
--- rows that are to change are shown, and have all that the records take away
-abbrev pub FitsShown : KeyChange → Option (List Cells) → Type 0
-FitsShown (Fills key rows) shown = Unit {0}
-FitsShown (Turns key records) None = ⊥
-FitsShown (Turns key records) (Some rows) = IsCovered rows records
-FitsShown (Goes key) shown = Unit {0}
-
--- each of the changes of a key fits what is shown of it then
-abbrev pub FitAll : List KeyChange → Value → Option (List Cells) → Type 0
-FitAll [] key shown = Unit {0}
-FitAll (c ∷ cs) key shown = (equal (key_in c) key ≡ true → FitsShown c shown) × FitAll cs key (if equal (key_in c) key then turned c shown else shown)
+-- the rows of a key that is filled are told
+abbrev pub told_of : Value → Option (List Cells) → List KeyChange
+told_of key None = []
+told_of key (Some rows) = Fills key rows ∷ []
 
 -- a filled key that an eviction has made a hole goes
 abbrev pub gone_by : Evicted → Value → List KeyChange
@@ -57,7 +45,6 @@ asked_by said.Entry k = []
 abbrev pub rows_at : Kept Value (List Cells) → Value → Option (List Cells)
 rows_at kept key = entry_of (state_of equal kept key)
 
--- from what was shown first of each key the changes, which fit, lead to what is filled
+-- from what was shown first of each key the changes lead to what is filled
 pub record LeadsTo (first : Value → Option (List Cells)) (changes : List KeyChange) (kept : Kept Value (List Cells)) : Type 0 where
   pub each : (key : Value) → rows_at kept key ≡ shown_after changes key (first key)
-  pub fits : (key : Value) → FitAll changes key (first key)

@@ -5,7 +5,7 @@ ghost use Rattle.row.specs.{Cells.Cells, Cells.datum_of, Changes.IsCovered, Grou
 ghost use Rattle.partial.specs.{States.Kept, States.after_change, States.OthersStay, States.state_of, States.ChangeFits, Sums.sum_of_bags, Truth.IsTrueOf};
 ghost use Rattle.packet.specs.{Keys.Ascends, Keys.is_among, Keys.stands_of, Keys.open_at, Keys.drop_at, Keys.give_at, Groups.names_of, Groups.records_at, Groups.changed_by};
 ghost use Rattle.protocol.specs.ViewSteps.{drop_all, again, capped, oldest_open};
-ghost use Rattle.view_domain.specs.{Shown.rows_at, Shown.LeadsTo, Shown.gone_by, Shown.asked_by, Taken.evicted_all};
+ghost use Rattle.view_domain.specs.{Shown.rows_at, Shown.LeadsTo, Shown.gone_by, Shown.told_of, Shown.asked_by, Taken.evicted_all};
 
 use crate::shown::KeyChange;
 use packet::groups::{Group, Groups};
@@ -112,21 +112,31 @@ pub(crate) fn change_key(
         → OnOk result (LeadsTo first told.new.items kept.new) }
 {
     group.apply_at(alloc, kept, source, &key)?;
-    let shown = kept.get(&key).is_some();
-    tell_if(
-        told,
-        shown,
-        KeyChange::Turns {
-            key,
-            records: group,
-        },
-    )
+    tell_rows(alloc, kept, key, told)
+}
+
+/// Says of a key that is filled which rows it has, of which it tells a copy.
+fn tell_rows(
+    alloc: Global,
+    kept: &Partial<Value, Bag>,
+    key: Value,
+    told: &mut Vec<KeyChange>,
+) -> Result<(), AllocError>
+    ensures { OnOk result (told.new.items
+        ≡ told.old.items ++ told_of key (rows_at kept.now key)) }
+{
+    let Some(bag) = kept.get(&key) else {
+        return Ok(());
+    };
+    let rows = bag.try_clone(alloc)?;
+    told.push(KeyChange::Fills { key, rows })?;
+    Ok(())
 }
 
 /// Takes in the records of a source by key: a filled key takes them, of a gather the piece of the
 /// source, where it is here. Says what becomes of filled keys behind what was told. Errors: memory
-/// only; how far it came is then not said. Cost: for each key two look-ups, and for each record
-/// that of `Bag::apply`; no record is copied but the rows that come.
+/// only; how far it came is then not said. Cost: for each key two look-ups, for each record that of
+/// `Bag::apply`, and for each filled key a copy of its bag.
 pub fn change_keys(
     alloc: Global,
     kept: &mut Partial<Value, Bag>,

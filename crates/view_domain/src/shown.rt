@@ -4,7 +4,6 @@ ghost use Rattle.model.specs.Queries.{Line as LineView};
 ghost use Rattle.view_domain.specs.Outboxes.{asked_after, cut_after, keys_told, line_told, put_line};
 
 use model::fronts::Fronts;
-use packet::groups::Group;
 use packet::line::Line;
 use row::bag::Bag;
 use row::value::Value;
@@ -13,10 +12,8 @@ use std::marker::Model;
 /// What becomes of a shown key.
 #[derive(Drop)]
 pub enum KeyChange {
-    /// It is filled with these rows.
+    /// Its rows are these: it is filled, or they have changed.
     Fills { key: Value, rows: Bag },
-    /// Its rows change by these records.
-    Turns { key: Value, records: Group },
     /// It is shown no longer.
     Goes { key: Value },
 }

@@ -11,4 +11,4 @@ returns-clause-stands c = oldest_is c.args.kept.now c.evict_oldest.new.self c.in
 
 pub returns-clause-shown : goal.returns-clause-shown
 returns-clause-shown c = λ first h. on_ok_weaker c.tell_if.result
-    (λ p. rw p (leads_push c.args.kept.now c.evict_oldest.new.self (Goes c.in-Some.key) c.in-Some.ensures.others first c.args.told.now.items (ap entry_of c.in-Some.ensures.hole) tt h)) c.tell_if.ensures
+    (λ p. rw p (leads_push c.args.kept.now c.evict_oldest.new.self (Goes c.in-Some.key) c.in-Some.ensures.others first c.args.told.now.items (ap entry_of c.in-Some.ensures.hole) h)) c.tell_if.ensures
