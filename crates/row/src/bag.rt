@@ -137,8 +137,7 @@ impl Bag {
 
     /// Adds each row of the other, beside those that are there. Errors: memory only; then the bag may
     /// lack rows of either. Cost: for each row of the shorter bag that of `add` to the longer, whose
-    /// list, where it has more than two rows, grows once at most; none is copied but the only row of a
-    /// bag that gets its second.
+    /// list, where it has more than two rows, grows once at most; none is copied.
     pub fn append(&mut self, mut other: Bag) -> Result<(), AllocError>
         ensures counts { OnOk result ((z : Cells) → times row_cmp z self.new
             ≡ times row_cmp z self.old + times row_cmp z other) }

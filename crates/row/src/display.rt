@@ -24,8 +24,9 @@ impl Display for Value {
     }
 }
 
-/// Writes the text bare where it may stand so, and else quoted.
-fn write_text<W: fmt::Write>(f: &mut fmt::Formatter<W>, text: &str) -> fmt::Result
+/// Writes the text as a value that is one: bare where it may stand so, and else quoted. Errors: those
+/// of the writer.
+pub fn write_text<W: fmt::Write>(f: &mut fmt::Formatter<W>, text: &str) -> fmt::Result
     ensures { WritesOnOk W.write_str_gives f.old result (spec.printed (cells.text text.now)) f.new }
 {
     if is_bare(text) {
