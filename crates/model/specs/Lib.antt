@@ -3,6 +3,7 @@ pub mod Entries
 pub mod Places
 pub mod Queries
 pub mod Histories
+pub mod Lines
 pub mod Printed
 pub mod Cuts
 pub mod Tables

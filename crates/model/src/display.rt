@@ -12,13 +12,13 @@ impl Display for Lengths {
     ghost output = { λ c. Some (printed_cut c) };
 
     fn fmt<W: fmt::Write>(&self, f: &mut fmt::Formatter<W>) -> fmt::Result {
-        let Some((first, others)) = self.lines.as_slice().split_first() else {
+        if self.stages() == 0 {
             return Ok(());
-        };
-        write_line(f, first.as_slice())?;
-        for line in others {
+        }
+        write_line(f, self.line(0))?;
+        for stage in 1..self.stages() {
             f.write_char('/')?;
-            write_line(f, line.as_slice())?;
+            write_line(f, self.line(stage))?;
         }
         Ok(())
     }

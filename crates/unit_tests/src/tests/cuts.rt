@@ -31,7 +31,7 @@ fn cuts_are_printed(rt: HostRuntime) -> Result<(), Fail> {
 type CutOf = &'static [&'static [u64]];
 
 /// A floor, a cut that it takes, whether that is in its place, and the floor after it.
-const TAKEN: [(CutOf, CutOf, bool, &str); 6] = [
+const TAKEN: [(CutOf, CutOf, bool, &str); 7] = [
     (&[&[1, 2], &[3, 4]], &[&[5, 6], &[7, 8]], true, "5,6/7,8"),
     (
         &[&[1, 2, 3, 4, 5]],
@@ -39,6 +39,7 @@ const TAKEN: [(CutOf, CutOf, bool, &str); 6] = [
         true,
         "6,7,8,9,10",
     ),
+    (&[&[1], &[2], &[3]], &[&[4], &[5], &[6]], true, "4/5/6"),
     (&[], &[&[5, 6], &[7, 8]], false, "5,6/7,8"),
     (&[&[1]], &[&[1], &[2]], false, "1/2"),
     (&[&[1, 2]], &[&[1]], false, "1"),
@@ -71,6 +72,38 @@ fn floors_take_cuts(rt: HostRuntime) -> Result<(), Fail> {
         let (found, is_in_place) = taken(rt.alloc(), floor, of)?;
         assert!(rt; found.as_str() == text, "{found}, not {text}");
         assert!(rt; is_in_place == in_place, "{text}");
+    }
+    Ok(())
+}
+
+/// A cut, a stage shard, a source, the length that is set there in a copy, and the cut and its copy.
+const SET: [(CutOf, usize, usize, u64, &str); 4] = [
+    (&[&[1, 2]], 0, 1, 9, "1,2 1,9"),
+    (&[&[1, 2], &[3, 4]], 1, 0, 9, "1,2/3,4 1,2/9,4"),
+    (&[&[1, 2, 3, 4, 5]], 0, 4, 9, "1,2,3,4,5 1,2,3,4,9"),
+    (&[&[1], &[2], &[3]], 2, 0, 9, "1/2/3 1/2/9"),
+];
+
+fn set(
+    alloc: Global,
+    of: CutOf,
+    stage: usize,
+    source: usize,
+    len: u64,
+) -> Result<String, AllocError> {
+    let cut = cut(alloc, of)?;
+    let mut copy = cut.try_clone(alloc)?;
+    if stage < copy.stages() && source < copy.line(stage).len() {
+        copy.set(stage, source, len);
+    }
+    format!(in alloc; "{cut} {copy}")
+}
+
+#[test]
+fn copies_have_lengths_of_their_own(rt: HostRuntime) -> Result<(), Fail> {
+    for (of, stage, source, len, text) in SET {
+        let found = set(rt.alloc(), of, stage, source, len)?;
+        assert!(rt; found.as_str() == text, "{found}, not {text}");
     }
     Ok(())
 }

@@ -1,26 +1,28 @@
-use Rattle.std.proofs.Common.{◌≡◌, ℕ, ◌<◌, List, [], length, map, slice_index_or, slice_set, ap, sym, ◌∙◌}
-use Rattle.std.proofs.lemmas.List.{length-set}
-use Rattle.smallvec.specs.SmallVec.{SmallVec, with_items}
-use Rattle.smallvec.proofs.SmallVecLemmas.{items-with_items}
+use Rattle.std.proofs.Common.{◌≡◌, ◌<◌, length, map, refl, ap, sym, ◌∙◌, ℕ, Vec, Global}
+use Rattle.std.specs.Vec.{with_item}
+use Rattle.model.specs.Lines.{first_lines, lines_in}
+use Rattle.model.proofs.Copies.{first_set, second_set}
 use Rattle.model.proofs.Lists.{set_in}
 use Rattle.model.proofs.lengths.Lengths.set.Goals as goal
 
-abbrev of_line : SmallVec ℕ → List ℕ
-of_line v = v.items
+pub returns-in-Here : goal.returns-in-Here
+returns-in-Here c =
+    let h = c.in-Here in
+    let is : first_lines h.stages h.first h.second h.firsts h.seconds ≡ c.args.self.now = ap lines_in (sym h.is) ∙ c.self.view_is in
+    rw (← is) (first_set h.stages h.first h.second h.firsts h.seconds c.args.stage c.args.source c.args.len c.if-stage-eq0.true (rw (is) c.requires.stage))
 
--- a number written through what is lent of the lines and of one of them
-set_lent : (v : SmallVec (SmallVec ℕ)) (lines : List (SmallVec ℕ)) (line : SmallVec ℕ) (numbers : List ℕ) (i j n : ℕ) → lines ≡ v.items → line ≡ slice_index_or lines i line → numbers ≡ (slice_index_or lines i line).items → i < length (map of_line v.items)
-    → map of_line (with_items v (slice_set lines i (with_items (slice_index_or lines i line) (slice_set numbers j n)))).items ≡ slice_set (map of_line v.items) i (slice_set (slice_index_or (map of_line v.items) i []) j n)
-set_lent v lines line numbers i j n lent is inside there =
-    let old : SmallVec ℕ = slice_index_or lines i line in
-    let new : SmallVec ℕ = with_items old (slice_set numbers j n) in
-    let written : new.items ≡ slice_set line.items j n = items-with_items old (slice_set numbers j n) (length-set numbers j n ∙ ap length inside) ∙ ap (λ x. slice_set x j n) (inside ∙ ap of_line (sym is)) in
-    let whole : (with_items v (slice_set lines i new)).items ≡ slice_set lines i new = items-with_items v (slice_set lines i new) (length-set lines i new ∙ ap length lent) in
-    let in_lines : i < length (map of_line lines) = rw lent there in
-    ap (map of_line) whole ∙ set_in of_line lines i j n line new in_lines is written ∙ ap (λ (ls : List (SmallVec ℕ)). slice_set (map of_line ls) i (slice_set (slice_index_or (map of_line ls) i []) j n)) lent
+pub returns-in-Here-2 : goal.returns-in-Here-2
+returns-in-Here-2 c =
+    let h = c.in-Here in
+    let is : first_lines h.stages h.first h.second h.firsts h.seconds ≡ c.args.self.now = ap lines_in (sym h.is) ∙ c.self.view_is in
+    let held = rw h.is at c.self.invariant in
+    rw (← is) (second_set h.stages h.first h.second h.firsts h.seconds c.args.stage c.args.source c.args.len c.if-stage-eq0.false held.1.1.lines (rw (is) c.requires.stage))
 
-pub returns : goal.returns
-returns c =
-    let v = c.self.inside.lines in
-    let there : c.args.stage < length (map of_line v.items) = rw c.self.view_is c.requires.stage in
-    rw (← c.self.view_is) (set_lent v c.deref_mut.result.now c.index-deref_mut-stage.result c.deref_mut-2.result.now c.args.stage c.args.source c.args.len c.deref_mut.ensures.value c.index-deref_mut-stage.is c.deref_mut-2.ensures.value there)
+pub returns-in-Apart : goal.returns-in-Apart
+returns-in-Apart c =
+    let lists = λ (v : Vec ℕ Global). v.items in
+    let lines = c.in-Apart.lines.items in
+    let line = c.index_mut.result.now in
+    let is : map lists lines ≡ c.args.self.now = ap lines_in (sym c.in-Apart.is) ∙ c.self.view_is in
+    let there : c.args.stage < length (map lists lines) = rw is c.requires.stage in
+    rw (← is) (set_in lists lines c.args.stage c.args.source c.args.len line (with_item line c.args.source c.args.len) there c.index_mut.ensures.value refl)

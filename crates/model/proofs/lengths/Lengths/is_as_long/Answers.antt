@@ -1,6 +1,6 @@
 use Rattle.std.proofs.Common.{◌<◌, ◌≡◌, ℕ, List, [], length, map, slice_index_or, ap, sym, ◌∙◌, arith, rules}
 use Rattle.std.proofs.lemmas.List.{get_or-map, length-map, take_more_same}
-use Rattle.model.proofs.lengths.Lengths.has_room_for.Goals as goal
+use Rattle.model.proofs.lengths.Lengths.is_as_long.Goals as goal
 
 pub returns-then-line : goal.returns-then-line
 returns-then-line c =
