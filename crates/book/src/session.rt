@@ -11,12 +11,12 @@ use crate::cut::{Cut, Cuts};
 use crate::law::{Add, Law, LogPage, Naming};
 use crate::part::Part;
 use crate::step::{learn, try_add};
+use key_rows::shared::SharedRows;
 use logbook::{Plain, Seen};
 use model::floors::Floors;
 use model::lengths::Lengths;
 use model::place::Place;
 use plan::plan::Plan;
-use row::row::Row;
 use row::value::Value;
 use std::alloc::{AllocError, Global};
 use std::marker::{Model, PhantomData};
@@ -63,7 +63,7 @@ pub struct Reading<'a> {
     view: usize,
     cut: &'a Lengths,
     key: &'a Value,
-    rows: &'a [Row],
+    rows: &'a SharedRows,
 }
 
 impl<'a> Plain<Reading<'a>, LogPage, u64> for Add {
@@ -187,7 +187,7 @@ impl<J: Naming> SessionWord<J> {
         view: usize,
         shard: usize,
         key: &Value,
-        rows: &[Row],
+        rows: &SharedRows,
         cut: &Cut<J>,
         room: Option<Lengths>,
     ) -> Result<(), Moved>

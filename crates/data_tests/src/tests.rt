@@ -5,5 +5,6 @@ mod gathers;
 mod histories;
 mod linked;
 mod plans;
+mod shared;
 mod stages;
 mod words;

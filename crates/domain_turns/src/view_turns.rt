@@ -67,7 +67,7 @@ pub fn take_from_inbox<J: Naming, R: Wait + Drop>(
     let Some(change) = out.take_shown() else {
         return Ok(());
     };
-    let Ok(()) = writer.show(alloc, change) else {
+    let Ok(()) = writer.show(change) else {
         domain.stop();
         return Err(Refused::NoMemory);
     };

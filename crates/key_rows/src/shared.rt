@@ -111,11 +111,7 @@ impl SharedRows {
     /// The rows with the records applied as one change, as `Bag::apply` does; those that are shared
     /// stay. Errors: memory only. Cost: a copy of each row, and for each record a search by halves and
     /// a move of the rows behind its place.
-    pub fn with_records(
-        &self,
-        alloc: Global,
-        records: &[Record],
-    ) -> Result<SharedRows, AllocError>
+    pub fn with_records(&self, alloc: Global, records: &[Record]) -> Result<SharedRows, AllocError>
         ensures { IfOk result (λ r. r ≡ with_records self.now records.now) }
     {
         let mut rows = PlacedRows::copied(alloc, self.as_slice(), records.len())?;

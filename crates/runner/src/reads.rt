@@ -37,7 +37,7 @@ pub(crate) fn write_found<O: Write>(found: &Found, out: &mut O) -> io::Result<()
 
 fn write_rows<O: Write>(answer: &Answer, out: &mut O) -> io::Result<()> {
     writeln!(out, "rows {} cut {}", answer.rows.len(), answer.cut)?;
-    for row in answer.rows.rows() {
+    for row in answer.rows.iter() {
         writeln!(out, "{row}")?;
     }
     Ok(())

@@ -14,6 +14,7 @@ use crate::turns::ReadTurns;
 use book::cut::Cut;
 use book::law::Naming;
 use calls::want::fill;
+use key_rows::shared::SharedRows;
 use model::lengths::Lengths;
 use plan::plan::Plan;
 use routes::routes::Routes;
@@ -22,7 +23,6 @@ use row::value::{Value, shard_of};
 use schedule::arguments::read_target;
 use schedule::readers::place_of;
 use shown::reader::Look;
-use shown::rows::SharedRows;
 use std::alloc::Global;
 use std::sync::Wait;
 
@@ -154,9 +154,7 @@ impl<J: Naming> Session<J> {
         self.number += 1;
         self.word.learn(&self.seen);
         let book = self.routes.book();
-        let answered = self
-            .word
-            .answer(book, view, shard, key, rows.rows(), &cut, room);
+        let answered = self.word.answer(book, view, shard, key, &rows, &cut, room);
         self.seen = self.word.part();
         match answered {
             Ok(()) => {

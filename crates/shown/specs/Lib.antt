@@ -1,5 +1,4 @@
 pub mod Moves
-pub mod KeySteps
 pub mod Snapshots
 pub mod Sights
 pub mod Looks

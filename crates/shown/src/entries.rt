@@ -4,7 +4,7 @@ ghost use Rattle.std.specs.Option.{option_copied};
 ghost use Rattle.row.specs.Cells.{datum_of};
 ghost use Rattle.shown.specs.Snapshots.{shown_at, without};
 
-use crate::rows::SharedRows;
+use key_rows::shared::SharedRows;
 use linked_map::map::LinkedMap;
 use row::value::Value;
 use std::alloc::{AllocError, Global};

@@ -6,7 +6,6 @@
 pub mod delta;
 mod entries;
 pub mod reader;
-pub mod rows;
 mod rule;
 mod shown;
 pub mod writer;

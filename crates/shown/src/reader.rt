@@ -5,12 +5,12 @@ ghost use Rattle.book.specs.Sessions.{fronts};
 ghost use Rattle.row.specs.Cells.{datum_of};
 ghost use Rattle.shown.specs.{Looks.OnHit, Looks.OnMiss, Snapshots.Snapshot, Snapshots.IsLater, Snapshots.IsTrue, Snapshots.shown_at, Sights.HasLooked, Sights.IsOf, Sights.seen_or, Sights.nothing};
 
-use crate::rows::SharedRows;
 use crate::rule::{Looks, Published, Sight};
 use crate::shown::Shown;
 use book::cut::Cut;
 use book::law::Naming;
 use core::mem::replace_with;
+use key_rows::shared::SharedRows;
 use left_right::reader::Reader;
 use row::refused::Refused;
 use row::value::Value;

@@ -6,18 +6,19 @@ ghost use Rattle.packet.specs.Lines.{entries_of, lengths_of};
 ghost use Rattle.row.specs.Cells.{datum_of};
 ghost use Rattle.shown.specs.Snapshots.{first_of, shown_at, with_change};
 
-use crate::delta::{Delta, KeyStep, Moved};
+use crate::delta::{Delta, Moved};
 use crate::entries::Entries;
-use crate::rows::SharedRows;
 use crate::rule::Shot;
 use book::cut::Cut;
 use book::law::Naming;
 use book::part::Part;
+use key_rows::shared::SharedRows;
 use left_right::Absorb;
 use plan::plan::Plan;
 use row::value::Value;
 use std::alloc::{AllocError, Global};
 use std::marker::Model;
+use view_domain::shown::KeyChange;
 
 /// The filled keys of one shard of a view with their rows, over one cut.
 #[derive(Drop)]
@@ -90,14 +91,23 @@ impl<J: Naming> Shown<J> {
         self.asked
     }
 
-    // Changes what is shown of a key. Where memory is refused, all stays.
-    fn change(&mut self, step: &KeyStep) -> Result<(), AllocError>
+    // Changes what is shown of a key, which shares the rows of the change. Where memory is refused, all
+    // stays.
+    fn change(&mut self, change: &KeyChange) -> Result<(), AllocError>
         ensures changed { OnOk result (self.new ≡ record self.old {
-          rows = with_change self.old.rows step.now;
+          rows = with_change self.old.rows change.now;
         }) }
         ensures err { OnErr result (self.new ≡ self.old) }
     {
-        step.apply(self.alloc, &mut self.rows)
+        match change {
+            KeyChange::Fills { key, rows } => self
+                .rows
+                .put(key.try_clone(self.alloc)?, rows.try_clone(self.alloc)?),
+            KeyChange::Goes { key } => {
+                self.rows.remove(key);
+                Ok(())
+            }
+        }
     }
 
     // Puts the new line of a stage shard in the place of its old one.
@@ -127,7 +137,7 @@ impl<J: Naming> Absorb<Delta<J>> for Shown<J> {
 
     fn absorb_first(&mut self, delta: &Delta<J>, _other: &Shown<J>) -> Result<(), AllocError> {
         match delta {
-            Delta::Key(step) => self.change(step),
+            Delta::Key(change) => self.change(change),
             Delta::Moves(moved) => {
                 self.advance(moved);
                 Ok(())

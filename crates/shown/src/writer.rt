@@ -4,7 +4,7 @@ ghost use Rattle.packet.specs.Lines.{AreOf};
 ghost use Rattle.shown.specs.{Boards.pending, Boards.shown, Boards.state, Boards.state_by, Sights.ahead, Snapshots.IsLater, Snapshots.IsTrue, Snapshots.after, Snapshots.applied, Snapshots.first_of, Snapshots.lengths_with, Snapshots.with_change};
 ghost use Rattle.view_domain.specs.Outboxes.{put_line};
 
-use crate::delta::{Delta, KeyStep, Moved};
+use crate::delta::{Delta, Moved};
 use crate::reader::ShownReader;
 use crate::rule::{Looks, Published, Sight, Tells};
 use crate::shown::Shown;
@@ -80,8 +80,9 @@ impl<J: Naming, R: Wait + Drop> ShownWriter<J, R> {
     /// Shows a change: what a view's shard tells of one message. It waits for readers that still
     /// look at the copy behind, applies the change to it, and turns readers to it. Errors: memory
     /// only; readers then see what they saw. Cost: a key that is filled, or whose rows have changed,
-    /// is put into both copies, which share its rows; and a look at the place of each reader.
-    pub fn show(&mut self, alloc: Global, change: ShownChange<Front<J>>) -> Result<(), AllocError>
+    /// is put into both copies, which share its rows with the view shard; and a look at the place of
+    /// each reader.
+    pub fn show(&mut self, change: ShownChange<Front<J>>) -> Result<(), AllocError>
         requires idle { pending self.old ≡ [] }
         requires stage { IfSome change.line (λ _. change.stage < J.plan.stages) }
         requires of { IfSome change.line (AreOf J.plan) }
@@ -92,23 +93,21 @@ impl<J: Naming, R: Wait + Drop> ShownWriter<J, R> {
         ensures err { OnErr result (shown self.new ≡ shown self.old) }
     {
         let (stage, line, keys, asked) = change.into_parts();
-        self.append_keys(alloc, keys)?;
+        self.append_keys(keys)?;
         self.append_line(stage, line)?;
         self.append_asked(asked)?;
         self.publish()
     }
 
-    // Puts what becomes of keys behind what is not published yet. The rows of a key are made here, for
-    // both copies.
-    fn append_keys(&mut self, alloc: Global, keys: Vec<KeyChange>) -> Result<(), AllocError>
+    // Puts what becomes of keys behind what is not published yet.
+    fn append_keys(&mut self, keys: Vec<KeyChange>) -> Result<(), AllocError>
         ensures ahead { OnOk result (ahead (state self.new) ≡ record (ahead (state self.old)) {
           rows = fold with_change (ahead (state self.old)).rows keys.items;
         }) }
         ensures shown { shown self.new ≡ shown self.old }
     {
         for key in keys {
-            let step = KeyStep::new(alloc, key)?;
-            self.append(Delta::Key(step))?;
+            self.append(Delta::Key(key))?;
         }
         Ok(())
     }

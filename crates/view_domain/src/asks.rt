@@ -8,6 +8,7 @@ ghost use Rattle.view_domain.specs.{Shown.LeadsTo, Shown.rows_at, Outboxes.new_l
 
 use crate::shown::KeyChange;
 use crate::takes::take_in;
+use key_rows::kept::KeyRows;
 use model::fronts::Fronts;
 use packet::line::Line;
 use packet::marks::Marks;
@@ -16,7 +17,6 @@ use packet::request::{Marker, Request};
 use packet::stage_packet::Content;
 use partial::partial::Partial;
 use plan::domain::Tag;
-use row::bag::Bag;
 use row::value::Value;
 use std::alloc::{AllocError, Global};
 
@@ -71,7 +71,7 @@ fn requests_of(
 #[tactic(auto, using(row::proofs::Keys::value_equivalence))]
 pub(crate) fn begin_key(
     alloc: Global,
-    kept: &mut Partial<Value, Bag>,
+    kept: &mut Partial<Value, KeyRows>,
     tag: Tag,
     key: Value,
 ) -> Result<Option<Vec<Request>>, AllocError>
@@ -147,7 +147,7 @@ pub(crate) struct Made<F: Fronts> {
 /// only; what is then held is not said.
 pub(crate) fn prepare<F: Fronts>(
     alloc: Global,
-    kept: &mut Partial<Value, Bag>,
+    kept: &mut Partial<Value, KeyRows>,
     marks: &mut Marks,
     source: usize,
     asks: Asks,

@@ -8,9 +8,9 @@ ghost use Rattle.protocol.specs.ViewSteps.{drop_all, again, capped, oldest_open}
 ghost use Rattle.view_domain.specs.{Shown.rows_at, Shown.LeadsTo, Shown.gone_by, Shown.told_of, Shown.asked_by, Taken.evicted_all};
 
 use crate::shown::KeyChange;
+use key_rows::kept::KeyRows;
 use packet::groups::{Group, Groups};
 use partial::partial::{Evicted, Partial};
-use row::bag::Bag;
 use row::value::Value;
 use std::alloc::{AllocError, Global};
 
@@ -35,7 +35,7 @@ fn note_evicted(
 
 /// Evicts a key for a source, and says what that has done.
 fn evict_key(
-    kept: &mut Partial<Value, Bag>,
+    kept: &mut Partial<Value, KeyRows>,
     source: usize,
     key: Value,
     told: &mut Vec<KeyChange>,
@@ -59,7 +59,7 @@ fn evict_key(
 /// was told, and the keys to ask for behind those of before. Errors: memory only; how far it came
 /// is then not said. Cost: one look-up for each key; no key is copied.
 pub fn evict_keys(
-    kept: &mut Partial<Value, Bag>,
+    kept: &mut Partial<Value, KeyRows>,
     source: usize,
     keys: Vec<Value>,
     told: &mut Vec<KeyChange>,
@@ -93,10 +93,29 @@ fn tell_if(told: &mut Vec<KeyChange>, shown: bool, change: KeyChange) -> Result<
     Ok(())
 }
 
+/// Applies the records as one change of the part that a source has of the key. Errors: memory only;
+/// then all is as it was.
+fn apply_at(
+    alloc: Global,
+    kept: &mut Partial<Value, KeyRows>,
+    source: usize,
+    key: &Value,
+    group: &Group,
+) -> Result<(), AllocError>
+    requires { ChangeFits IsCovered source group.now (state_of equal kept.old key.now) }
+    ensures sources { kept.new.sources ≡ kept.old.sources }
+    ensures stands { stands_of kept.new ≡ stands_of kept.old }
+    ensures state { OnOk result (state_of equal kept.new key.now
+        ≡ after_change with_records source group.now (state_of equal kept.old key.now)) }
+    ensures others { OthersStay equal key.now kept.old kept.new }
+{
+    kept.apply(alloc, key, source, group.records())
+}
+
 /// Takes in the records of a key, and says what that changes.
 pub(crate) fn change_key(
     alloc: Global,
-    kept: &mut Partial<Value, Bag>,
+    kept: &mut Partial<Value, KeyRows>,
     source: usize,
     key: Value,
     group: Group,
@@ -111,35 +130,35 @@ pub(crate) fn change_key(
     ensures shown { (first : Key → Option (List Cells)) → LeadsTo first told.old.items kept.old
         → OnOk result (LeadsTo first told.new.items kept.new) }
 {
-    group.apply_at(alloc, kept, source, &key)?;
+    apply_at(alloc, kept, source, &key, &group)?;
     tell_rows(alloc, kept, key, told)
 }
 
-/// Says of a key that is filled which rows it has, of which it tells a copy.
+/// Says of a key that is filled which rows it has, which it shares with what it tells.
 fn tell_rows(
     alloc: Global,
-    kept: &Partial<Value, Bag>,
+    kept: &Partial<Value, KeyRows>,
     key: Value,
     told: &mut Vec<KeyChange>,
 ) -> Result<(), AllocError>
     ensures { OnOk result (told.new.items
         ≡ told.old.items ++ told_of key (rows_at kept.now key)) }
 {
-    let Some(bag) = kept.get(&key) else {
+    let Some(rows) = kept.get(&key) else {
         return Ok(());
     };
-    let rows = bag.try_clone(alloc)?;
+    let rows = rows.shared(alloc)?;
     told.push(KeyChange::Fills { key, rows })?;
     Ok(())
 }
 
 /// Takes in the records of a source by key: a filled key takes them, of a gather the piece of the
 /// source, where it is here. Says what becomes of filled keys behind what was told. Errors: memory
-/// only; how far it came is then not said. Cost: for each key two look-ups, for each record that of
-/// `Bag::apply`, and for each filled key a copy of its bag.
+/// only; how far it came is then not said. Cost: for each key two look-ups, and that of
+/// `KeyRows::apply`.
 pub fn change_keys(
     alloc: Global,
-    kept: &mut Partial<Value, Bag>,
+    kept: &mut Partial<Value, KeyRows>,
     source: usize,
     groups: Groups,
     told: &mut Vec<KeyChange>,
@@ -159,11 +178,11 @@ pub fn change_keys(
     Ok(())
 }
 
-/// Says of a key that has just been filled that it has its rows, of which it tells a copy.
+/// Says of a key that has just been filled that it has its rows, which it shares with what it tells.
 #[tactic(auto, using(crate::proofs::StateSteps::leads_same))]
 fn tell_filled(
     alloc: Global,
-    kept: &Partial<Value, Bag>,
+    kept: &Partial<Value, KeyRows>,
     key: Value,
     filled: bool,
     told: &mut Vec<KeyChange>,
@@ -175,7 +194,7 @@ fn tell_filled(
         → OnOk result (LeadsTo first told.new.items kept.now) }
 {
     let rows = match kept.get(&key) {
-        Some(bag) if filled => bag.try_clone(alloc)?,
+        Some(rows) if filled => rows.shared(alloc)?,
         _ => return Ok(()),
     };
     told.push(KeyChange::Fills { key, rows })?;
@@ -184,14 +203,13 @@ fn tell_filled(
 
 /// Takes in the piece of a source for a key: it is taken where it is missing, and with the last one
 /// the key is filled, behind all that are. Says so behind what was told. Errors: memory only; what
-/// is kept is then not said. Cost: that of `Partial::give_piece`, and a copy of the rows of a key
-/// that is filled by it.
+/// is kept is then not said. Cost: that of `Partial::give_piece`.
 pub fn fill_key(
     alloc: Global,
     source: usize,
     key: Value,
-    rows: Bag,
-    kept: &mut Partial<Value, Bag>,
+    rows: KeyRows,
+    kept: &mut Partial<Value, KeyRows>,
     told: &mut Vec<KeyChange>,
 ) -> Result<(), AllocError>
     ensures sources { kept.new.sources ≡ kept.old.sources }
@@ -210,7 +228,10 @@ pub fn fill_key(
 
 /// Makes the key a hole that was filled first, and says so; where none is filled nothing changes.
 #[tactic(auto, using(row::proofs::Keys::value_equivalence))]
-fn open_oldest(kept: &mut Partial<Value, Bag>, told: &mut Vec<KeyChange>) -> Result<(), AllocError>
+fn open_oldest(
+    kept: &mut Partial<Value, KeyRows>,
+    told: &mut Vec<KeyChange>,
+) -> Result<(), AllocError>
     ensures sources { kept.new.sources ≡ kept.old.sources }
     ensures stands { stands_of kept.new
         ≡ oldest_open (stands_of kept.old).order (stands_of kept.old) }
@@ -232,7 +253,7 @@ fn open_oldest(kept: &mut Partial<Value, Bag>, told: &mut Vec<KeyChange>) -> Res
 /// not said. Constant time for each key that goes.
 pub fn cap_keys(
     cap: usize,
-    kept: &mut Partial<Value, Bag>,
+    kept: &mut Partial<Value, KeyRows>,
     told: &mut Vec<KeyChange>,
 ) -> Result<(), AllocError>
     ensures sources { kept.new.sources ≡ kept.old.sources }
@@ -262,7 +283,7 @@ fn tell_gone(what: Evicted, key: Value, told: &mut Vec<KeyChange>) -> Result<(),
 /// Makes a filled key a hole, and says so behind what was told; elsewhere nothing changes. Errors:
 /// memory only, after the eviction. Constant time.
 pub fn open_key(
-    kept: &mut Partial<Value, Bag>,
+    kept: &mut Partial<Value, KeyRows>,
     key: Value,
     told: &mut Vec<KeyChange>,
 ) -> Result<(), AllocError>

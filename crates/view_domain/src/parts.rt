@@ -8,10 +8,10 @@ ghost use Rattle.view_domain.specs.{Parts.AreOf, Parts.groups_of, Shown.LeadsTo}
 
 use crate::keys::{change_key, change_keys};
 use crate::shown::KeyChange;
+use key_rows::kept::KeyRows;
 use packet::groups::{Group, Groups, grouped};
 use packet::keyed::Keyed;
 use partial::partial::Partial;
-use row::bag::Bag;
 use row::value::Value;
 use std::alloc::{AllocError, Global};
 
@@ -72,7 +72,7 @@ pub(crate) fn part_by_key(alloc: Global, changes: Vec<Keyed>) -> Result<Parted, 
 /// Takes in the records of a source by key, as `change_keys` does.
 pub(crate) fn change_parted(
     alloc: Global,
-    kept: &mut Partial<Value, Bag>,
+    kept: &mut Partial<Value, KeyRows>,
     source: usize,
     records: Parted,
     told: &mut Vec<KeyChange>,

@@ -3,9 +3,9 @@ ghost use Rattle.std.specs.Prelude.{◌≡◌, IfSome, List};
 ghost use Rattle.model.specs.Queries.{Line as LineView};
 ghost use Rattle.view_domain.specs.Outboxes.{asked_after, cut_after, keys_told, line_told, put_line};
 
+use key_rows::shared::SharedRows;
 use model::fronts::Fronts;
 use packet::line::Line;
-use row::bag::Bag;
 use row::value::Value;
 use std::marker::Model;
 
@@ -13,7 +13,7 @@ use std::marker::Model;
 #[derive(Drop)]
 pub enum KeyChange {
     /// Its rows are these: it is filled, or they have changed.
-    Fills { key: Value, rows: Bag },
+    Fills { key: Value, rows: SharedRows },
     /// It is shown no longer.
     Goes { key: Value },
 }

@@ -9,6 +9,7 @@ ghost use Rattle.view_domain.specs.{Shown.LeadsTo, Shown.rows_at, Taken.IsStepOf
 use crate::keys::{cap_keys, evict_keys, fill_key};
 use crate::parts::{change_parted, part_by_key};
 use crate::shown::KeyChange;
+use key_rows::kept::KeyRows;
 use packet::keyed::Keyed;
 use packet::piece::Piece;
 use partial::partial::Partial;
@@ -28,7 +29,7 @@ pub(crate) struct Taken {
 /// record is of a key that is evicted.
 fn take_changes(
     alloc: Global,
-    kept: &mut Partial<Value, Bag>,
+    kept: &mut Partial<Value, KeyRows>,
     source: usize,
     changes: Vec<Keyed>,
     evicts: Vec<Value>,
@@ -60,7 +61,7 @@ fn take_changes(
 #[tactic(auto, using(row::proofs::Keys::equal_is))]
 fn take_piece(
     alloc: Global,
-    kept: &mut Partial<Value, Bag>,
+    kept: &mut Partial<Value, KeyRows>,
     source: usize,
     piece: Option<Piece>,
     told: &mut Vec<KeyChange>,
@@ -79,7 +80,7 @@ fn take_piece(
     };
     let (key, rows) = piece.into_parts();
     let rows = Bag::of(alloc, rows)?;
-    fill_key(alloc, source, key, rows, kept, told)
+    fill_key(alloc, source, key, KeyRows::piece(rows), kept, told)
 }
 
 /// Takes in what a packet of a source carries: the keys that it evicts, its records, its piece, and
@@ -87,7 +88,7 @@ fn take_piece(
 /// Errors: memory only; what is then kept is not said.
 pub(crate) fn take_in(
     alloc: Global,
-    kept: &mut Partial<Value, Bag>,
+    kept: &mut Partial<Value, KeyRows>,
     source: usize,
     cap: usize,
     changes: Vec<Keyed>,

@@ -13,6 +13,7 @@ use crate::message::ToView;
 use crate::outbox::ViewOutbox;
 use crate::shown::ShownChange;
 use crate::turn::starts_at;
+use key_rows::kept::KeyRows;
 use model::fronts::Fronts;
 use packet::line::Line;
 use packet::marks::Marks;
@@ -22,7 +23,6 @@ use packet::stage_packet::StagePacket;
 use partial::partial::Partial;
 use plan::domain::Tag;
 use plan::plan::Plan;
-use row::bag::Bag;
 use row::refused::Refused;
 use row::value::Value;
 use std::alloc::{AllocError, Global};
@@ -36,7 +36,7 @@ pub struct ViewDomain<'p, F: Fronts> {
     reader: Reader,
     tag: Tag,
     cut: Vec<Line<F>>,
-    kept: Partial<Value, Bag>,
+    kept: Partial<Value, KeyRows>,
     asked: u64,
     marks: Marks,
     mode: Mode,
@@ -144,7 +144,7 @@ impl<'p, F: Fronts> ViewDomain<'p, F> {
 
     /// The rows of a filled key, also where it has stopped: unless it is broken, those of a key of
     /// its shard are the view's over its cut. Takes no memory. Constant time.
-    pub fn get(&self, key: &Value) -> Option<&Bag>
+    pub fn get(&self, key: &Value) -> Option<&KeyRows>
         ensures rows { option_copied result ≡ rows_at self.now.kept key.now }
         ensures truth { self.now.mode ≢ Mode.Broken → view_shard self.now.plan self.now.view
             (datum_of key.now) ≡ self.now.shard → IfSome (rows_at self.now.kept key.now)

@@ -14,7 +14,7 @@ use machine::machine::Machine;
 use machine::views::cut_lengths;
 use model::fronts::Fronts;
 use row::refused::Refused;
-use row::row::{Row, copies};
+use row::row::Row;
 use row::value::Value;
 use schedule::arguments::read_target;
 use schedule::event::Reply;
@@ -105,6 +105,6 @@ fn find<F: Fronts>(
     let Some(rows) = domain.get(key) else {
         return Ok(None);
     };
-    let rows = copies(alloc, rows.rows())?;
+    let rows = rows.shared(alloc)?.to_rows(alloc)?;
     Ok(Some(rows))
 }

@@ -8,7 +8,7 @@ pub remove-requires : goal.remove-requires
 remove-requires c = omega (
   arith,
   c.self.inside.rows.ok,
-    removed_inside row_cmp row_total c.args.row.now c.self.inside.rows.items c.args.at c.self.invariant (rw c.self.view_is c.requires.small) (rw c.self.view_is c.requires.place) (rw c.self.view_is c.requires.there),
+  removed_inside row_cmp row_total c.args.row.now c.self.inside.rows.items c.args.at c.self.invariant (rw c.self.view_is c.requires.small) (rw c.self.view_is c.requires.place) (rw c.self.view_is c.requires.there),
 )
 
 pub invariant_of-self : goal.invariant_of-self

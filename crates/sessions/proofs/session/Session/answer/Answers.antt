@@ -30,14 +30,14 @@ pub answer-answered-requires-clause-rows : goal.answer-answered-requires-clause-
 answer-answered-requires-clause-rows g c =
     let p = g.J.Naming.plan in
     let found = rw (← c.self.view_is) at c.requires.found in
-    c.rows.ensures.rows ∙ (found.answers ∙ ap (λ fs. answer p fs c.args.view (datum_of c.args.key.now)) (sym found.fronts))
+    found.answers ∙ ap (λ fs. answer p fs c.args.view (datum_of c.args.key.now)) (sym found.fronts)
 
 pub invariant_of-self : goal.invariant_of-self
 invariant_of-self g c =
     let p = g.J.Naming.plan in
     let k = datum_of c.args.key.now in
     let found = rw (← c.self.view_is) at c.requires.found in
-    let r = has_read p c.self.inside.word c.learn.new.self c.answer-answered.new.self c.args.view c.args.shard k c.args.rows c.args.cut.lengths c.learn.ensures.stays c.requires.shard (rw c.rows.ensures.rows at c.in-Ok.ensures.answered) in
+    let r = has_read p c.self.inside.word c.learn.new.self c.answer-answered.new.self c.args.view c.args.shard k c.args.rows c.args.cut.lengths c.learn.ensures.stays c.requires.shard c.in-Ok.ensures.answered in
     let h = c.answer-answered.new.self.seen in
     let grown = prefix_trans c.self.inside.seen c.learn.new.self.seen h c.learn.ensures.others (added_grows p _ c.learn.new.self.seen _ h r.item) in
     rw (c.part.ensures.part, r.session) (caller_read p _ (c.self.inside.number + 1) c.args.cut.seen h c.args.cut.lengths c.answer-answered.new.self.floors _ c.args.view (view_shard p c.args.view k) c.self.invariant.0 grown c.lengths.ensures.within c.answer-answered.ensures.others r.floors, omega (arith, r.answered, c.self.invariant.1), looks_read p _ (c.self.inside.number + 1) h c.args.cut.lengths c.answer-answered.new.self.floors c.args.view (view_shard p c.args.view k) found.sight c.self.invariant.2 found.is found.cut r.floors, c.self.invariant.3)
@@ -50,7 +50,7 @@ returns-in-Ok-clause-read g c =
     let p = g.J.Naming.plan in
     let k = datum_of c.args.key.now in
     let found = rw (← c.self.view_is) at c.requires.found in
-    let r = has_read p c.self.inside.word c.learn.new.self c.answer-answered.new.self c.args.view c.args.shard k c.args.rows c.args.cut.lengths c.learn.ensures.stays c.requires.shard (rw c.rows.ensures.rows at c.in-Ok.ensures.answered) in
+    let r = has_read p c.self.inside.word c.learn.new.self c.answer-answered.new.self c.args.view c.args.shard k c.args.rows c.args.cut.lengths c.learn.ensures.stays c.requires.shard c.in-Ok.ensures.answered in
     let shows : Shows p _ c.args.view k c.args.rows c.args.cut.lengths = record { sight = found.sight; is = found.is; rows = found.rows; answers = found.answers; cut = found.cut } in
     rw (← c.self.view_is, c.part.ensures.part, r.session, r.answered, c.into_lengths-cut.ensures) (read_done p _ c.args.view k c.args.rows c.args.cut.lengths c.learn.new.self.seen c.answer-answered.new.self.seen c.answer-answered.new.self.floors c.self.invariant.2 c.learn.ensures.others r.once r.item shows r.floors)
 

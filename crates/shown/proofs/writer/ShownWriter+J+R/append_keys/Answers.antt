@@ -8,10 +8,9 @@ use Rattle.shown.proofs.writer.ShownWriter+J+R.append_keys.Goals as goal
 pub loop-key-preserved : goal.loop-key-preserved
 loop-key-preserved g c =
     let first = ahead (state c.args.self.now) in
-    let rows = fold with_change first.rows c.loop-key.yielded in record {
+    record {
       ahead = c.in_ok-append.ensures.ahead
-          ∙ ap (λ (s : Snapshot). record s { rows = with_change s.rows c.in_ok-step.step }) c.loop-key.invariant.ahead
-          ∙ ap (λ k. record first { rows = with_change rows k }) c.in_ok-step.ensures
+          ∙ ap (λ (s : Snapshot). record s { rows = with_change s.rows c.in-Some.key }) c.loop-key.invariant.ahead
           ∙ ap (λ r. record first { rows = r }) (sym (fold_more with_change first.rows c.loop-key.yielded c.in-Some.key));
       shown = c.append.ensures.shown ∙ c.loop-key.invariant.shown;
     }
