@@ -19,7 +19,7 @@ use std::marker::Model;
 /// A hash map whose entries stand in an order: an entry that is put in stands before all others.
 ///
 /// It holds at most 2^32 - 1 entries. Beside an entry it keeps two positions of four bytes and the
-/// hash table's part, and at most an eighth of its room lies empty after it grew.
+/// hash table's part, and at most a sixteenth of its room lies empty after it grew.
 #[derive(Drop)]
 pub struct LinkedMap<K: Eq + Hash, V> {
     map: IndexMap<K, V>,
@@ -159,7 +159,7 @@ fn take_out<K: Eq + Hash, V>(map: &mut IndexMap<K, V>, ring: &mut Ring, place: u
     map.swap_remove_index(place).unwrap()
 }
 
-/// Room for one entry more. A map that is full gets room for at most an eighth more than it has and
+/// Room for one entry more. A map that is full gets room for at most a sixteenth more than it has and
 /// five besides, and not for twice as many. Errors: memory only; then all is as it was.
 fn reserve_one<K: Eq + Hash, V>(map: &mut IndexMap<K, V>) -> Result<(), AllocError>
     ensures entries { IsUnchanged map.old map.new }
@@ -170,6 +170,6 @@ fn reserve_one<K: Eq + Hash, V>(map: &mut IndexMap<K, V>) -> Result<(), AllocErr
         return Ok(());
     }
     map.reserve(1)?;
-    map.shrink_to(len.saturating_add(len / 8).saturating_add(5));
+    map.shrink_to(len.saturating_add(len / 16).saturating_add(5));
     Ok(())
 }

@@ -122,14 +122,14 @@ impl Ring {
     }
 }
 
-/// Room for one link more, and for at most an eighth more than there are and four besides. Errors:
+/// Room for one link more, and for at most a sixteenth more than there are and four besides. Errors:
 /// memory only; then all is as it was.
 fn reserve_link(links: &mut Vec<Link>) -> Result<(), AllocError>
     ensures { links.new.items ≡ links.old.items }
 {
     let len = links.len();
     if len == links.capacity() {
-        links.reserve_exact((len / 8).saturating_add(5))?;
+        links.reserve_exact((len / 16).saturating_add(5))?;
     }
     Ok(())
 }

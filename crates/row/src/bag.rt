@@ -84,14 +84,6 @@ impl Bag {
         self.rows.as_slice()
     }
 
-    /// The same rows. Errors: memory only. Cost: that of `Row::try_clone` for each row.
-    pub fn try_clone(&self, alloc: Global) -> Result<Bag, AllocError>
-        ensures { IfOk result (λ b. b ≡ self.now) }
-    {
-        let rows = self.rows.try_clone(alloc)?;
-        Ok(Bag { alloc, rows })
-    }
-
     /// How many rows there are, a repeat counted each time. Constant time.
     pub fn len(&self) -> usize
         ensures { result ≡ length self.now }

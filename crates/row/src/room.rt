@@ -6,7 +6,7 @@ use std::alloc::AllocError;
 use std::collections::HashMap;
 use std::hash::Hash;
 
-/// Room for one entry more. A map that is full gets room for at most an eighth more than it has and
+/// Room for one entry more. A map that is full gets room for at most a sixteenth more than it has and
 /// five besides, and not for twice as many, which most maps never come to. Errors: memory only; then
 /// all is as it was. Cost: a look, and where the map is full a move of its entries, which is constant
 /// time spread over many.
@@ -22,6 +22,6 @@ pub fn reserve_one<K: Eq + Hash, V>(map: &mut HashMap<K, V>) -> Result<(), Alloc
         return Ok(());
     }
     map.reserve(1)?;
-    map.shrink_to(len.saturating_add(len / 8).saturating_add(5));
+    map.shrink_to(len.saturating_add(len / 16).saturating_add(5));
     Ok(())
 }

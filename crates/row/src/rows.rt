@@ -2,7 +2,7 @@
 ghost use Rattle.std.specs.Prelude.{◌≡◌, ◌<◌, ◌≤◌, ◌∷◌, [], box_value, length, insert, remove, IfOk, OnOk, OnErr};
 ghost use Rattle.row.specs.Held.{rows_in};
 
-use crate::row::{Row, copies};
+use crate::row::Row;
 use std::alloc::{AllocError, Global};
 use std::{mem, slice};
 
@@ -40,19 +40,8 @@ impl Rows {
         }
     }
 
-    /// The same rows. Errors: memory only. Cost: that of `Row::try_clone` for each row.
-    pub(crate) fn try_clone(&self, alloc: Global) -> Result<Rows, AllocError>
-        ensures { IfOk result (λ r. rows_in r ≡ rows_in self.now) }
-    {
-        match self {
-            Rows::None => Ok(Rows::None),
-            Rows::One(row) => Ok(Rows::One(row.try_clone(alloc)?)),
-            Rows::Many(rows) => Ok(Rows::Many(copies(alloc, rows)?)),
-        }
-    }
-
-    /// Puts the row in a place, and those from there on behind it. A list that is full gets room for an
-    /// eighth more than it has, and one besides. Errors: memory only; then the rows are as they were.
+    /// Puts the row in a place, and those from there on behind it. A list that is full gets room for a
+    /// sixteenth more than it has, and one besides. Errors: memory only; then the rows are as they were.
     /// Cost: a move of the rows behind, and where the list is full one of all, spread over many.
     pub(crate) fn insert(&mut self, alloc: Global, at: usize, row: Row) -> Result<(), AllocError>
         requires { at ≤ length (rows_in self.old) }
@@ -76,7 +65,7 @@ impl Rows {
             Rows::Many(rows) => {
                 let len = rows.len();
                 if len == rows.capacity() {
-                    rows.reserve_exact(len / 8 + 1)?;
+                    rows.reserve_exact(len / 16 + 1)?;
                 }
                 rows.insert(at, row)?;
                 Ok(())
