@@ -1,10 +1,11 @@
-//! Sums of numbers in rows.
-ghost use Rattle.std.specs.Prelude.{◌≡◌, true};
+//! Numbers in rows: their sums and their order.
+ghost use Rattle.std.specs.Prelude.{◌≡◌, map, true};
 ghost use Rattle.std.specs.List.{list_all};
-ghost use Rattle.row.specs.{Cells.datum_of, Cells.cell_at, Numbers.number_of, Numbers.is_small_at, Numbers.sum_of};
+ghost use Rattle.row.specs.{Cells.datum_of, Cells.cell_at, Cells.row_cmp, Packed.whole, Numbers.number_of, Numbers.is_small_at, Numbers.sum_of};
 
 use crate::row::Row;
 use crate::value::Value;
+use std::cmp::Ordering;
 
 /// The number that the value is; 0 for a text.
 fn number_of(value: &Value) -> i128
@@ -32,4 +33,13 @@ pub fn sum(column: usize, rows: &[Row]) -> i128
         sum += number_at(row, column);
     }
     sum
+}
+
+/// How rows of these whole numbers stand to each other: number by number, and then by length. Takes no
+/// memory.
+#[inline]
+pub fn compare_numbers(numbers: &[u32], others: &[u32]) -> Ordering
+    ensures { result ≡ row_cmp (map whole numbers.now) (map whole others.now) }
+{
+    numbers.cmp(&others)
 }
