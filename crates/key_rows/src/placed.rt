@@ -2,10 +2,11 @@
 ghost use Rattle.std.specs.Prelude.{◌≡◌, ◌+◌, ◌<◌, ◌≤◌, IfOk, IfSome, Some, length, slice_get};
 ghost use Rattle.std.specs.Option.{option_map};
 ghost use Rattle.row.specs.{Cells.row_cmp, Cells.text, Packed.order_of, Packed.packed, Packed.whole};
-ghost use Rattle.key_rows.specs.Placed.{datum_at};
+ghost use Rattle.key_rows.specs.Placed.{cells_of, datum_at};
 
 use crate::field::Field;
 use arrayvec::ArrayString;
+use row::number::compare_numbers;
 use row::row::Row;
 use std::alloc::{AllocError, Global};
 use std::cmp::Ordering;
@@ -30,6 +31,33 @@ enum Place {
     },
     /// As a `Row` has them.
     Apart(Row),
+}
+
+/// The values of a row that lie in it.
+#[derive(Clone, Copy)]
+struct Parts<'a> {
+    before: &'a [u32],
+    text: &'a str,
+    after: &'a [u32],
+}
+
+impl Parts<'_> {
+    // How the row stands to one that has as many numbers before its text.
+    #[inline]
+    fn compare(self, other: Parts<'_>) -> Ordering
+        requires { length self.before.now ≡ length other.before.now }
+        ensures { result ≡ row_cmp (cells_of self.entry) (cells_of other.entry) }
+    {
+        let before = compare_numbers(self.before, other.before);
+        if !before.is_eq() {
+            return before;
+        }
+        let text = self.text.cmp(other.text);
+        if !text.is_eq() {
+            return text;
+        }
+        compare_numbers(self.after, other.after)
+    }
 }
 
 // What holds one drops it by this call, and need not know its parts.
@@ -137,8 +165,8 @@ impl PlacedRow {
         }
     }
 
-    /// How the row stands to the other: value by value, and then by length. Takes no memory.
-    pub fn compare(&self, other: &PlacedRow) -> Ordering
+    // How the row stands to the other, column by column and then by length.
+    fn compare_columns(&self, other: &PlacedRow) -> Ordering
         ensures { result ≡ row_cmp self.now other.now }
     {
         for at in 0..self.width() {
@@ -153,6 +181,42 @@ impl PlacedRow {
             Ordering::Less
         } else {
             Ordering::Equal
+        }
+    }
+
+    // The numbers and the text, where they lie in the row.
+    #[inline]
+    fn parts(&self) -> Option<Parts<'_>>
+        ensures { IfSome result (λ p. self.now ≡ cells_of p) }
+    {
+        match &self.place {
+            Place::Here {
+                before,
+                after,
+                numbers,
+                text,
+            } => {
+                let before = usize::from(*before);
+                let end = before + usize::from(*after);
+                Some(Parts {
+                    before: &numbers[..before],
+                    text: text.as_str(),
+                    after: &numbers[before..end],
+                })
+            }
+            Place::Apart(_) => None,
+        }
+    }
+
+    /// How the row stands to the other: value by value, and then by length. Takes no memory.
+    pub fn compare(&self, other: &PlacedRow) -> Ordering
+        ensures { result ≡ row_cmp self.now other.now }
+    {
+        match (self.parts(), other.parts()) {
+            (Some(parts), Some(others)) if parts.before.len() == others.before.len() => {
+                parts.compare(others)
+            }
+            _ => self.compare_columns(other),
         }
     }
 

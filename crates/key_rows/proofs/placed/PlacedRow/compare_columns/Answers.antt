@@ -1,6 +1,6 @@
 use Rattle.std.proofs.Common.{◌∙◌, sym, arith}
 use Rattle.row.proofs.Compared.{cmp_told, cmp_told_tied, cmp_untold, cmp_shorter, cmp_ended, told_within}
-use Rattle.key_rows.proofs.placed.PlacedRow.compare.Goals as goal
+use Rattle.key_rows.proofs.placed.PlacedRow.compare_columns.Goals as goal
 
 pub returns-in_default : goal.returns-in_default
 returns-in_default c = sym (c.loop-at.invariant.1 ∙ cmp_untold c.args.self.now c.args.other.now c.loop-at.at (omega (arith, c.loop-at-test.true, c.width-at-end.ensures)) (sym c.in_default.is ∙ c.order_at.ensures))
