@@ -63,7 +63,7 @@ impl<F: Fronts> Line<F> {
     pub fn try_clone(&self, alloc: Global) -> Result<Line<F>, AllocError>
         ensures { IfOk result (λ l. l ≡ self.now) }
     {
-        let mut fronts = Vec::new(alloc);
+        let mut fronts = Vec::with_capacity(alloc, self.fronts.len())?;
         for front in &self.fronts {
             fronts.push(front.try_clone(alloc)?)?;
         }
