@@ -1,5 +1,5 @@
 //! What a view shard does with keys.
-ghost use Rattle.std.specs.Prelude.{if◌then◌else◌, is_some, true, false, ◌≡◌, ◌++◌, ◌∷◌, [], List, Option, Some, map, slice_get, OnOk};
+ghost use Rattle.std.specs.Prelude.{if◌then◌else◌, is_some, true, false, ◌≡◌, ◌++◌, ◌∷◌, [], List, Option, Some, map, slice_get, OnErr, OnOk};
 ghost use Rattle.std.specs.Map.{lookup};
 ghost use Rattle.row.specs.{Cells.Cells, Cells.datum_of, Changes.IsCovered, Groups.equal, declared.value.Value.Value as Key, BagChanges.with_records};
 ghost use Rattle.partial.specs.{States.Kept, States.after_change, States.OthersStay, States.state_of, States.ChangeFits, Sums.sum_of_bags, Truth.IsTrueOf};
@@ -94,7 +94,7 @@ fn tell_if(told: &mut Vec<KeyChange>, shown: bool, change: KeyChange) -> Result<
 }
 
 /// Applies the records as one change of the part that a source has of the key. Errors: memory only;
-/// then all is as it was.
+/// then all is as it was. Cost: at most two look-ups by hash, and that of the change.
 fn apply_at(
     alloc: Global,
     kept: &mut Partial<Value, KeyRows>,
@@ -108,11 +108,13 @@ fn apply_at(
     ensures state { OnOk result (state_of equal kept.new key.now
         ≡ after_change with_records source group.now (state_of equal kept.old key.now)) }
     ensures others { OthersStay equal key.now kept.old kept.new }
+    ensures err { OnErr result (kept.new ≡ kept.old) }
 {
     kept.apply(alloc, key, source, group.records())
 }
 
-/// Takes in the records of a key, and says what that changes.
+/// Takes in the records of a key, and says what that changes. Errors: memory only; the records may
+/// then be taken in, with nothing told. Cost: at most three look-ups by hash, and that of the change.
 pub(crate) fn change_key(
     alloc: Global,
     kept: &mut Partial<Value, KeyRows>,
