@@ -26,7 +26,7 @@ typedef void (*peer_row)(void *sink, uint64_t story, uint64_t author, const char
 
 struct session {
   void *inside, *outside; /* where the stack of the session, and that of who called, was left */
-  struct call call;
+  struct call *call; /* where the store takes the next call from */
   int64_t came_to;
   const char *title;
   void *sink;
@@ -69,6 +69,7 @@ uint64_t caller_sessions(void) { return count; }
 _Bool caller_next(uint64_t number, int64_t came_to, struct call *call) {
   struct session *session = &sessions[number];
   session->came_to = came_to;
+  session->call = call;
   if (!session->couch) {
     own = session;
     session->couch = mmap(NULL, COUCH, PROT_READ | PROT_WRITE, MAP_PRIVATE | MAP_ANONYMOUS, -1, 0);
@@ -81,13 +82,12 @@ _Bool caller_next(uint64_t number, int64_t came_to, struct call *call) {
   } else {
     turn(&session->inside, session->outside);
   }
-  *call = session->call;
   return !session->has_ended;
 }
 
 void caller_title(uint64_t number, char *into, uint64_t length) {
   struct session *session = &sessions[number];
-  memcpy(into, session->title, length < session->call.length ? length : session->call.length);
+  memcpy(into, session->title, length < session->call->length ? length : session->call->length);
 }
 
 void caller_row(uint64_t number, uint64_t story, uint64_t author, const char *title, uint64_t length,
@@ -113,7 +113,7 @@ static void *serve(void *arguments) {
 }
 
 static int64_t made(struct session *session, struct call call) {
-  session->call = call;
+  *session->call = call;
   turn(&session->outside, session->inside);
   return session->came_to;
 }
