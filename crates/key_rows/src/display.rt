@@ -1,5 +1,5 @@
 //! How rows are printed whose values lie in them.
-ghost use Rattle.std.specs.Prelude.{◌≡◌, Some};
+ghost use Rattle.std.specs.Prelude.{Some};
 ghost use Rattle.std.specs.Fmt.{WritesOnOk};
 ghost use Rattle.row.specs.Printed as spec;
 ghost use Rattle.key_rows.specs.Placed as placed;

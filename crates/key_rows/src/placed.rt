@@ -1,5 +1,5 @@
 //! A row whose values lie in it.
-ghost use Rattle.std.specs.Prelude.{◌≡◌, ◌+◌, ◌<◌, ◌≤◌, IfOk, IfSome, Some, length, slice_get};
+ghost use Rattle.std.specs.Prelude.{◌≡◌, ℕ, ◌+◌, ◌^◌, ◌<◌, ◌≤◌, IfOk, IfNone, IfSome, List, Some, length, slice_get};
 ghost use Rattle.std.specs.Option.{option_map};
 ghost use Rattle.row.specs.{Cells.row_cmp, Cells.text, Packed.order_of, Packed.packed, Packed.whole};
 ghost use Rattle.key_rows.specs.Placed.{cells_of, datum_at};
@@ -139,7 +139,8 @@ impl PlacedRow {
         self.get(at).unwrap()
     }
 
-    /// The same row. Errors: memory only, and a row whose values lie in it needs none. Constant time.
+    /// The same row. Errors: memory only, and a row whose values lie in it needs none. Cost: a copy of
+    /// 48 bytes, or that of `Row::try_clone` where it is kept so.
     pub fn try_clone(&self, alloc: Global) -> Result<PlacedRow, AllocError>
         ensures { IfOk result (λ r. r ≡ self.now) }
     {
@@ -292,7 +293,9 @@ fn text_column(row: &Row) -> Option<usize>
 
 /// The text of at most 24 bytes in the column, if there is one.
 fn short_text(row: &Row, at: usize) -> Option<ArrayString<24>>
-    ensures { IfSome result (λ t. slice_get row.now at ≡ Some (text t.bytes)) }
+    ensures some { IfSome result (λ t. slice_get row.now at ≡ Some (text t.bytes)) }
+    ensures none { IfNone result ((t : List ℕ) → slice_get row.now at ≡ Some (text t)
+        → 24 < length t) }
 {
     let cell = row.get(at)?;
     ArrayString::from(cell.value().as_text()?).ok()
@@ -300,7 +303,9 @@ fn short_text(row: &Row, at: usize) -> Option<ArrayString<24>>
 
 /// The whole number below 2^32 in the column, if there is one.
 fn small_number(row: &Row, at: usize) -> Option<u32>
-    ensures { IfSome result (λ n. slice_get row.now at ≡ Some (whole n)) }
+    ensures some { IfSome result (λ n. slice_get row.now at ≡ Some (whole n)) }
+    ensures none { IfNone result ((n : ℕ) → slice_get row.now at ≡ Some (whole n)
+        → 2 ^ 32 ≤ n) }
 {
     let cell = row.get(at)?;
     u32::try_from(cell.value().as_number()?).ok()

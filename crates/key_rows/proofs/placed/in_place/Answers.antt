@@ -14,4 +14,4 @@ returns c =
     let third = c.in_ok-number_beside-3 in
     c.here.ensures
     ∙ (ap (λ width. packed at (width - 1 - at) (first.field-0 ∷ second.field-0 ∷ third.field-0 ∷ []) v) c.width-width.ensures
-    ∙ placed_is row at v first.field-0 second.field-0 third.field-0 (omega (arith, c.width-width.ensures, c.if-width-gt4.false)) c.in_ok-text.ensures (first.ensures.before, first.ensures.behind) (second.ensures.before, second.ensures.behind) (third.ensures.before, third.ensures.behind))
+    ∙ placed_is row at v first.field-0 second.field-0 third.field-0 (omega (arith, c.width-width.ensures, c.if-width-gt4.false)) c.in_ok-text.ensures.some (first.ensures.before, first.ensures.behind) (second.ensures.before, second.ensures.behind) (third.ensures.before, third.ensures.behind))
