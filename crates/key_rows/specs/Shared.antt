@@ -4,6 +4,8 @@ use Rattle.std.specs.Arc.{arc_value}
 use Rattle.row.specs.Cells.{Cells}
 use Rattle.key_rows.specs.declared.shared.Held.{Held}
 use Rattle.key_rows.specs.declared.shared.Held.TheVariants as held
+use Rattle.key_rows.specs.declared.shared.Place.{Place}
+use Rattle.key_rows.specs.declared.shared.Place.TheVariants as place
 
 -- the rows in order
 abbrev pub rows_in : Held → List Cells
@@ -13,3 +15,9 @@ rows_in (held.Two rows) = arc_value rows
 rows_in (held.Three rows) = arc_value rows
 rows_in (held.Four rows) = arc_value rows
 rows_in (held.Many rows) = (arc_value rows).items
+rows_in (held.Pieces rows) = arc_value rows
+
+-- the rows where they lie
+abbrev pub rows_at : Place → List Cells
+rows_at (place.List rows) = rows.now
+rows_at (place.Pieces rows) = rows.now

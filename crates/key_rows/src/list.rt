@@ -1,11 +1,11 @@
 //! Rows in order that are being changed.
-ghost use Rattle.std.specs.Prelude.{◌≡◌, ◌<◌, ◌≤◌, ◌↔◌, IfOk, IsTrue, OnOk, length, true, false};
+ghost use Rattle.std.specs.Prelude.{◌≡◌, ◌<◌, ◌≤◌, ◌↔◌, IfOk, IsTrue, OnOk, length, take, drop, true, false};
 ghost use Rattle.std.specs.Ordering.{is_gt};
 ghost use Rattle.std.specs.List.Sorted.{IsPartitionPoint};
-ghost use Rattle.row.specs.{BagChanges.minus_applied, BagChanges.plus_applied, BagChanges.with_gains, BagChanges.with_losses, BagChanges.with_records, Bags.IsAscending, Bags.inserted, Bags.removed, Bags.times, Cells.row_cmp};
+ghost use Rattle.row.specs.{Bags.IsAscending, Bags.inserted, Bags.removed, Bags.times, Cells.row_cmp};
 
 use crate::placed::PlacedRow;
-use row::record::{Record, Sign};
+use crate::rows::Rows;
 use row::row::Row;
 use std::alloc::{AllocError, Global};
 use std::marker::Model;
@@ -46,21 +46,39 @@ impl PlacedRows {
         Ok(PlacedRows { rows: placed })
     }
 
-    /// A copy of these rows, which are in order, with room for some more. Errors: memory only. Cost:
+    /// A copy of these rows, which are in order, with room for so many. Errors: memory only. Cost:
     /// that of `PlacedRow::try_clone` for each.
     pub(crate) fn copied(
         alloc: Global,
-        rows: &[PlacedRow],
-        more: usize,
+        rows: Rows<'_>,
+        room: usize,
     ) -> Result<PlacedRows, AllocError>
-        requires { IsAscending row_cmp rows.now }
-        ensures { IfOk result (λ r. r ≡ rows.now) }
+        requires { IsAscending row_cmp rows }
+        ensures { IfOk result (λ r. r ≡ rows.entry) }
     {
-        let mut copies = Vec::with_capacity(alloc, rows.len().saturating_add(more))?;
+        let mut copies = Vec::with_capacity(alloc, room)?;
         for row in rows {
             copies.push(row.try_clone(alloc)?)?;
         }
         Ok(PlacedRows { rows: copies })
+    }
+
+    /// How many rows there are.
+    pub(crate) fn len(&self) -> usize
+        ensures rows { result ≡ length self.now }
+        ensures in_order { IsAscending row_cmp self.now }
+    {
+        self.rows.len()
+    }
+
+    /// Moves the rows from this place on out of it. Errors: memory only; then all is as it was.
+    pub(crate) fn split_off(&mut self, at: usize) -> Result<PlacedRows, AllocError>
+        requires { at ≤ length self.old }
+        ensures front { OnOk result (self.new ≡ take at self.old) }
+        ensures back { IfOk result (λ b. b ≡ drop at self.old) }
+    {
+        let rows = self.rows.split_off(at)?;
+        Ok(PlacedRows { rows })
     }
 
     /// The rows, moved out of it.
@@ -72,37 +90,9 @@ impl PlacedRows {
         rows
     }
 
-    /// Applies the records as one change, as `Bag::apply` does. Errors: memory only; how far it came
-    /// is then not said.
-    pub(crate) fn apply(&mut self, alloc: Global, records: &[Record]) -> Result<(), AllocError>
-        ensures { OnOk result (self.new ≡ with_records self.old records.now) }
-    {
-        self.gain_all(alloc, records)?;
-        self.lose_all(alloc, records)
-    }
-
-    // Adds the rows that the records add.
-    fn gain_all(&mut self, alloc: Global, records: &[Record]) -> Result<(), AllocError>
-        ensures { OnOk result (self.new ≡ with_gains self.old records.now) }
-    {
-        for signed in records {
-            self.gain(alloc, signed)?;
-        }
-        Ok(())
-    }
-
-    // Adds the record's row, where the record adds it.
-    fn gain(&mut self, alloc: Global, signed: &Record) -> Result<(), AllocError>
-        ensures { OnOk result (self.new ≡ plus_applied signed.now.sign signed.now.row self.old) }
-    {
-        match signed.sign {
-            Sign::Plus => self.add(PlacedRow::of(alloc, &signed.row)?),
-            Sign::Minus => Ok(()),
-        }
-    }
-
-    // Adds one of the row. Finds the place by halves, and moves the rows behind it.
-    fn add(&mut self, row: PlacedRow) -> Result<(), AllocError>
+    /// Adds one of the row. Errors: memory only; then all is as it was. Finds the place by halves, and
+    /// moves the rows behind it.
+    pub(crate) fn add(&mut self, row: PlacedRow) -> Result<(), AllocError>
         ensures { OnOk result (self.new ≡ inserted row_cmp row self.old) }
     {
         let at = place(&self.rows, &row);
@@ -110,28 +100,9 @@ impl PlacedRows {
         Ok(())
     }
 
-    // Takes away the rows that the records take away.
-    fn lose_all(&mut self, alloc: Global, records: &[Record]) -> Result<(), AllocError>
-        ensures { OnOk result (self.new ≡ with_losses self.old records.now) }
-    {
-        for signed in records {
-            self.lose(alloc, signed)?;
-        }
-        Ok(())
-    }
-
-    // Takes away the record's row, where the record takes it away and it is there.
-    fn lose(&mut self, alloc: Global, signed: &Record) -> Result<(), AllocError>
-        ensures { OnOk result (self.new ≡ minus_applied signed.now.sign signed.now.row self.old) }
-    {
-        if let Sign::Minus = signed.sign {
-            self.take_away(&PlacedRow::of(alloc, &signed.row)?);
-        }
-        Ok(())
-    }
-
-    // Takes away one of the row, where it is there.
-    fn take_away(&mut self, row: &PlacedRow)
+    /// Takes away one of the row, where it is there. Finds the place by halves, and moves the rows
+    /// behind it.
+    pub(crate) fn take_away(&mut self, row: &PlacedRow)
         ensures { self.new ≡ removed row_cmp row.now self.old }
     {
         let at = place(self.as_slice(), row);

@@ -1,7 +1,7 @@
 use Rattle.std.proofs.Common.{true, [], ◌∷◌, sym, ◌∙◌, ap}
 use Rattle.row.specs.BagChanges.{with_gains}
 use Rattle.row.proofs.RecordLoops.{gains_next, gains_done}
-use Rattle.key_rows.proofs.list.PlacedRows.gain_all.Goals as goal
+use Rattle.key_rows.proofs.changed.ChangedRows.gain_all.Goals as goal
 
 pub loop-signed-preserved : goal.loop-signed-preserved
 loop-signed-preserved c =
