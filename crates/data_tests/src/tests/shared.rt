@@ -200,3 +200,108 @@ fn shared_rows_stay_those_of_a_bag(rt: HostRuntime) -> Result<(), Fail> {
     }
     Ok(())
 }
+
+/// So many rows a key has here: in one piece of memory with their count, in one list, and in pieces.
+const COUNTS: [u64; 6] = [4, 5, 16, 17, 33, 100];
+
+/// The number of a key's first row.
+const FIRST: u64 = 1000;
+
+/// So many rows from this number on, each after the sign.
+fn run(alloc: Global, sign: &str, from: u64, count: u64) -> Result<String, AllocError> {
+    let mut text = String::new(alloc);
+    for at in 0..count {
+        if at > 0 {
+            text.push(';')?;
+        }
+        let number = from.saturating_add(at);
+        text.push_str(format!(in alloc; "{sign}{number} a")?.as_str())?;
+    }
+    Ok(text)
+}
+
+/// Records of few rows of a key of so many: at its front, in its middle and at its end, of a row that it
+/// has and of ones that it has not.
+fn few(alloc: Global, count: u64) -> Result<Vec<String>, AllocError> {
+    let middle = FIRST.saturating_add(count / 2);
+    let end = FIRST.saturating_add(count);
+    Ok(vec![in alloc;
+        format!(in alloc; "+0 a")?,
+        format!(in alloc; "+{middle} b")?,
+        format!(in alloc; "+{end} a")?,
+        format!(in alloc; "+{middle} a;+{middle} a")?,
+        format!(in alloc; "-{FIRST} a")?,
+        format!(in alloc; "-{middle} a;-{end} a;-{middle} b;-7 a")?,
+        format!(in alloc; "-{middle} c;+{middle} c;-{middle} a;+{FIRST} b")?,
+    ]?)
+}
+
+/// Records of many rows of a key of so many: all rows of pieces and of the key, and more than pieces
+/// have.
+fn many(alloc: Global, count: u64) -> Result<Vec<String>, AllocError> {
+    let middle = FIRST.saturating_add(count / 2);
+    Ok(vec![in alloc;
+        run(alloc, "-", FIRST, 16)?,
+        run(alloc, "-", FIRST, count)?,
+        run(alloc, "-", middle, 40)?,
+        run(alloc, "+", middle, 40)?,
+        run(alloc, "+", 0, 40)?,
+        format!(in alloc;
+            "{};{}",
+            run(alloc, "+", middle, 70)?,
+            run(alloc, "-", FIRST, 60)?
+        )?,
+    ]?)
+}
+
+/// Whether the rows are those of the bag, one after another too.
+fn is_bag(alloc: Global, rows: &SharedRows, bag: &Bag) -> Result<bool, AllocError> {
+    let text = written(alloc, bag.rows())?;
+    Ok(
+        shown(alloc, rows)?.as_str() == text.as_str()
+            && written(alloc, &rows.to_rows(alloc)?)?.as_str() == text.as_str()
+            && rows.len() == bag.len(),
+    )
+}
+
+/// Whether a key of so many rows is changed as a bag is, once and once more, and its rows stay.
+fn is_changed_alike(alloc: Global, count: u64, change: &str) -> Result<bool, AllocError> {
+    let mut bag = bag(alloc, run(alloc, "", FIRST, count)?.as_str())?;
+    let rows = SharedRows::of(alloc, &bag)?;
+    let before = shown(alloc, &rows)?;
+    let change = records(alloc, change)?;
+    bag.apply(alloc, &change)?;
+    let once = rows.with_records(alloc, &change)?;
+    let is_once = is_bag(alloc, &once, &bag)?;
+    bag.apply(alloc, &change)?;
+    let twice = once.with_records(alloc, &change)?;
+    Ok(is_once && is_bag(alloc, &twice, &bag)? && shown(alloc, &rows)?.as_str() == before.as_str())
+}
+
+#[test]
+fn a_few_rows_of_many_are_changed(rt: HostRuntime) -> Result<(), Fail> {
+    let alloc = rt.alloc();
+    for count in COUNTS {
+        for change in few(alloc, count)? {
+            assert!(rt;
+                is_changed_alike(alloc, count, change.as_str())?,
+                "{count}: {change}"
+            );
+        }
+    }
+    Ok(())
+}
+
+#[test]
+fn many_rows_of_many_are_changed(rt: HostRuntime) -> Result<(), Fail> {
+    let alloc = rt.alloc();
+    for count in COUNTS {
+        for change in many(alloc, count)? {
+            assert!(rt;
+                is_changed_alike(alloc, count, change.as_str())?,
+                "{count}: {change}"
+            );
+        }
+    }
+    Ok(())
+}
