@@ -25,7 +25,8 @@ typedef void (*peer_row)(void *sink, uint64_t story, uint64_t author, const char
                          uint64_t votes);
 
 struct session {
-  void *inside, *outside; /* where the stack of the session, and that of who called, was left */
+  /* in cache lines of its own, since each call writes here, and sessions have threads of their own */
+  _Alignas(128) void *inside, *outside; /* where the stack of the session, and that of who called, was left */
   struct call *call; /* where the store takes the next call from */
   int64_t came_to;
   const char *title;
