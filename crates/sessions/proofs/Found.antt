@@ -1,7 +1,7 @@
 -- What one look finds, and the sessions that a call leaves so.
-use Rattle.std.proofs.Common.{◌≡◌, ◌⊎◌, ℕ, zero, suc, ◌<◌, List, [], ◌∷◌, map, length, get_or, slice_get, slice_set, position, Option, Some, None, Result, Ok, Err, IfOk, IfErr, IfSome, OnOk, refl, ap, sym, ◌∙◌, subst, arith, inl, inr}
+use Rattle.std.proofs.Common.{◌≡◌, ◌⊎◌, ℕ, zero, suc, ◌<◌, List, [], ◌∷◌, map, length, get_or, slice_get, slice_set, position, Option, Some, None, Result, Ok, Err, IfOk, IfErr, IfSome, IfNone, OnOk, refl, ap, sym, ◌∙◌, subst, arith, inl, inr}
 use Rattle.std.proofs.lemmas.List.{length-map}
-use Rattle.row.specs.Cells.{Cells, datum_of}
+use Rattle.row.specs.Cells.{Cells, Datum, datum_of}
 use Rattle.row.specs.declared.refused.Refused.{Refused}
 use Rattle.row.specs.declared.refused.Refused.TheVariants.{NoMemory, Stopped, Busy, Behind}
 use Rattle.row.specs.declared.value.Value.{Value}
@@ -14,14 +14,12 @@ use Rattle.packet.specs.Readers.{Reader, is_reader, readers}
 use Rattle.packet.specs.declared.reader.Reader.{Reader as Code}
 use Rattle.schedule.specs.Codes.{reader_in}
 use Rattle.protocol.proofs.Spots.{is_found, reader_passes, reader_in as reader_is_in}
-use Rattle.shown.specs.Looks.{OnHit, OnMiss}
+use Rattle.shown.specs.Looks.{IsHit}
 use Rattle.shown.specs.Snapshots.{Snapshot, IsLater, IsTrue, shown_at}
-use Rattle.shown.specs.declared.reader.Look.{Look}
-use Rattle.shown.specs.declared.reader.Look.TheVariants.{Hit, Miss}
 use Rattle.sessions.specs.Callers.{Caller, AreLater, IsSight, reader_of}
 use Rattle.sessions.specs.Reads.{HasLooked, IsHidden, IsUnanswered, IsUndone, IsUnread}
 use Rattle.sessions.specs.Fences.{IsUnfenced}
-use Rattle.sessions.specs.Sights.{Finds, IsCutAt}
+use Rattle.sessions.specs.Sights.{Finds, FindsOver, IsCutAt}
 use Rattle.sessions.proofs.Later.{all_readers, all_self, all_set, reader_same, sight_of, sight_within}
 use Rattle.sessions.proofs.Looks.{looked_again, looked_undone}
 use Rattle.protocol.proofs.Lists.{set_at}
@@ -80,16 +78,22 @@ module _ (p : Layout) (shown : List Snapshot) (v : ℕ) (key : Value) (y : Snaps
       let e : view_shard p y.view (datum_of key) ≡ y.shard = ap (λ m. view_shard p m (datum_of key)) ev ∙ sym ej in
       subst (λ (o : Option (List Cells)). IfSome o (λ rs. rs ≡ answer p y.cut y.view (datum_of key))) at (t.rows key e) ∙ ap (λ m. answer p y.cut m (datum_of key)) ev
 
-  pub finds : {J : Type 0} (r : Result (Look J) Refused) → IsSight shown v (view_shard p v (datum_of key)) y → IfOk r (λ _. IsTrue p y)
-      → IfOk r (OnHit (λ rows cut. (shown_at y.rows (datum_of key) ≡ Some rows) × (cut.lengths ≡ y.lengths) × (fronts p cut ≡ y.cut))) → IfOk r (OnHit (λ rows cut. Finds p shown v (datum_of key) rows cut))
-  finds (Ok (Hit rows cut)) is t h = record { sight = y; is = is; rows = h.0; answers = truth_at rows t is.of h.0; cut = h.1; fronts = h.2 }
-  finds (Ok Miss) is t h = tt
-  finds (Err e) is t h = tt
+  pub finds : (r : Result (Option (List Cells)) Refused) (cut : Option CutView) → IsSight shown v (view_shard p v (datum_of key)) y → IfOk r (λ _. IsTrue p y)
+      → IfOk r (λ found. IfSome found (λ rows. IsHit p y (datum_of key) rows cut)) → IfOk r (λ found. IfSome found (λ rows. FindsOver p shown v (datum_of key) rows cut))
+  finds (Ok (Some rows)) cut is t h = record { over = h.over; there = h.there; finds = record { sight = y; is = is; rows = h.rows; answers = truth_at rows t is.of h.rows; cut = h.lengths; fronts = h.fronts } }
+  finds (Ok None) cut is t h = tt
+  finds (Err e) cut is t h = tt
 
-  pub hides : {J : Type 0} (r : Result (Look J) Refused) → IsSight shown v (view_shard p v (datum_of key)) y → IfOk r (OnMiss (shown_at y.rows (datum_of key) ≡ None)) → IfOk r (OnMiss (IsHidden p shown v (datum_of key)))
-  hides (Ok (Hit rows cut)) is h = tt
-  hides (Ok Miss) is h = record { sight = y; is = is; none = h }
+  pub hides : (r : Result (Option (List Cells)) Refused) → IsSight shown v (view_shard p v (datum_of key)) y → IfOk r (λ found. IfNone found (shown_at y.rows (datum_of key) ≡ None)) → IfOk r (λ found. IfNone found (IsHidden p shown v (datum_of key)))
+  hides (Ok (Some rows)) is h = tt
+  hides (Ok None) is h = record { sight = y; is = is; none = h }
   hides (Err e) is h = tt
+
+-- the cut that is there is that over which the key is shown
+pub found_over : (p : Layout) (shown : List Snapshot) (v : ℕ) (k : Datum) (rs : List Cells) (o : Option CutView) (c : CutView) → FindsOver p shown v k rs o → o ≡ Some c → Finds p shown v k rs c
+found_over p shown v k rs o c f is =
+    let e : f.over ≡ c = cc (f.there, is) in
+    subst (λ x. Finds p shown v k rs x) e f.finds
 
 -- ---- the session as it was
 pub same_looked : (c : Caller) → HasLooked c c

@@ -1,5 +1,5 @@
 -- What is found at a look, and the cuts that a fence floors at. No public clause cites this.
-use Rattle.std.specs.Prelude.{◌≡◌, ℕ, ◌<◌, ◌≤◌, List, length, map, slice_get, slice_index_or, slice_set, Some}
+use Rattle.std.specs.Prelude.{◌≡◌, ℕ, ◌<◌, ◌≤◌, List, Option, length, map, slice_get, slice_index_or, slice_set, Some}
 use Rattle.row.specs.Cells.{Datum, Cells}
 use Rattle.plan.specs.Layouts.{Layout}
 use Rattle.model.specs.Histories.{Item, Lengths, len_at, floor_at, log_of, view_shard}
@@ -18,6 +18,12 @@ pub record Finds (p : Layout) (shown : List Snapshot) (v : ℕ) (k : Datum) (rs 
   pub answers : rs ≡ answer p sight.cut v k
   pub cut : c.lengths ≡ sight.lengths
   pub fronts : fronts p c ≡ sight.cut
+
+-- there is a cut over which the key is shown with these rows
+pub record FindsOver (p : Layout) (shown : List Snapshot) (v : ℕ) (k : Datum) (rs : List Cells) (cut : Option CutView) : Type 0 where
+  pub over : CutView
+  pub there : cut ≡ Some over
+  pub finds : Finds p shown v k rs over
 
 -- the front has all that the history has of its log
 abbrev pub IsCovering : List Item → FrontView → Type 0

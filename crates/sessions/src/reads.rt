@@ -1,9 +1,8 @@
 //! Reads of a session.
-ghost use Rattle.std.specs.Prelude.{◌≡◌, ◌⊎◌, ◌<◌, IfOk, OnOk, IfErr, IfSome, Some, length};
+ghost use Rattle.std.specs.Prelude.{◌≡◌, ◌⊎◌, ◌<◌, IfOk, OnOk, IfErr, IfNone, IfSome, Some, length};
 ghost use Rattle.std.specs.Prelude.{slice_get};
 ghost use Rattle.row.specs.Cells.{datum_of};
 ghost use Rattle.plan.specs.Layouts.{view_at};
-ghost use Rattle.shown.specs.Looks.{OnHit as OnShown, OnMiss as OnHidden};
 ghost use Rattle.model.specs.Histories.{view_shard};
 ghost use Rattle.protocol.specs.Bases.{last_number};
 ghost use Rattle.packet.specs.Readers.{readers};
@@ -22,7 +21,6 @@ use row::refused::Refused;
 use row::value::{Value, shard_of};
 use schedule::arguments::read_target;
 use schedule::readers::place_of;
-use shown::reader::Look;
 use std::alloc::Global;
 use std::sync::Wait;
 
@@ -44,7 +42,7 @@ pub enum Found {
 }
 
 impl<J: Naming> Session<J> {
-    ghost use Rattle.sessions.specs.{Reads.Answers, Reads.HasLooked, Reads.IsMissed, Reads.IsRead, Reads.IsUnanswered, Reads.IsUnread, Reads.Misses, Reads.OnHit, Reads.OnMiss, Reads.Reads, Reads.Tries, Reads.asked_refusal, Sights.Finds};
+    ghost use Rattle.sessions.specs.{Reads.Answers, Reads.HasLooked, Reads.IsMissed, Reads.IsRead, Reads.IsUnanswered, Reads.IsUnread, Reads.Misses, Reads.OnHit, Reads.OnMiss, Reads.Reads, Reads.Tries, Reads.asked_refusal, Sights.Finds, Sights.FindsOver};
 
     /// Looks a key of a view up in what is shown, and makes a hit an answer, as one step. It waits
     /// for nobody, and is answered after a stop too. A hit is what the look found: the query's rows
@@ -79,35 +77,46 @@ impl<J: Naming> Session<J> {
             return Err(Refused::Stolen);
         }
         let view = read_target(self.plan(), view, key)?;
-        self.look(alloc, view, key)
+        match self.look(alloc, view, key) {
+            Ok(Some(answer)) => Ok(Found::Hit(answer)),
+            Ok(None) => Ok(Found::Miss),
+            Err(refused) => Err(refused),
+        }
     }
 
     // Looks the key up, and answers with a hit.
     #[inline(always)]
-    fn look(&mut self, alloc: Global, view: usize, key: &Value) -> Result<Found, Refused>
+    fn look(&mut self, alloc: Global, view: usize, key: &Value) -> Result<Option<Answer>, Refused>
         requires view { view < length J.plan.views }
         requires number { self.old.number < last_number }
-        ensures hit { IfOk result (OnHit (λ rows cut.
-            IsRead J.plan self.old self.new view (datum_of key.now) rows cut)) }
-        ensures miss { IfOk result (OnMiss
-            (IsMissed J.plan self.old self.new view (datum_of key.now))) }
+        ensures hit { IfOk result (λ found. IfSome found (λ a.
+            IsRead J.plan self.old self.new view (datum_of key.now) a.rows a.cut)) }
+        ensures miss { IfOk result (λ found.
+            IfNone found (IsMissed J.plan self.old self.new view (datum_of key.now))) }
         ensures refused { IfErr result (λ e. IsUnread J.plan self.old self.new e) }
     {
         let shard = key_shard(self.plan(), view, key);
-        let found = match self.find(alloc, view, shard, key) {
+        let mut cut = None;
+        let found = match self.find(alloc, view, shard, key, &mut cut) {
             Ok(found) => found,
             Err(refused) => return Err(refused),
         };
-        match found {
-            Look::Miss => Ok(Found::Miss),
-            Look::Hit(rows, cut) => match self.answer(alloc, view, shard, key, rows, cut) {
-                Ok(answer) => Ok(Found::Hit(answer)),
-                Err(refused) => Err(refused),
-            },
+        let Some(rows) = found else {
+            return Ok(None);
+        };
+        let Some(cut) = cut else {
+            unreachable!();
+        };
+        match self.answer(alloc, view, shard, key, &rows, &cut) {
+            Ok(()) => {
+                let cut = cut.into_lengths();
+                Ok(Some(Answer { rows, cut }))
+            }
+            Err(refused) => Err(refused),
         }
     }
 
-    // Looks the key up in what is shown of its view shard.
+    // Looks the key up in what is shown of its view shard: its rows and, in `cut`, the cut of a hit.
     #[inline(always)]
     fn find(
         &mut self,
@@ -115,19 +124,20 @@ impl<J: Naming> Session<J> {
         view: usize,
         shard: usize,
         key: &Value,
-    ) -> Result<Look<J>, Refused>
+        cut: &mut Option<Cut<J>>,
+    ) -> Result<Option<SharedRows>, Refused>
         requires view { view < length J.plan.views }
         requires shard { shard ≡ view_shard J.plan view (datum_of key.now) }
         requires range { shard < (view_at J.plan view).shards }
         ensures looked { HasLooked self.old self.new }
-        ensures hit { IfOk result (OnShown (λ rows cut.
-            Finds J.plan self.new.shown view (datum_of key.now) rows cut)) }
-        ensures miss { IfOk result (OnHidden
-            (IsHidden J.plan self.new.shown view (datum_of key.now))) }
+        ensures hit { IfOk result (λ found. IfSome found (λ rows.
+            FindsOver J.plan self.new.shown view (datum_of key.now) rows cut.new)) }
+        ensures miss { IfOk result (λ found.
+            IfNone found (IsHidden J.plan self.new.shown view (datum_of key.now))) }
         ensures only { IfErr result (λ e. e ≡ Refused.NoMemory) }
     {
         let place = shard_place(&self.routes, view, shard);
-        self.sights.look(alloc, place, view, key)
+        self.sights.look(alloc, place, view, key, cut)
     }
 
     // Answers with what was looked at.
@@ -138,29 +148,26 @@ impl<J: Naming> Session<J> {
         view: usize,
         shard: usize,
         key: &Value,
-        rows: SharedRows,
-        cut: Cut<J>,
-    ) -> Result<Answer, Refused>
+        rows: &SharedRows,
+        cut: &Cut<J>,
+    ) -> Result<(), Refused>
         requires view { view < length J.plan.views }
         requires shard { shard ≡ view_shard J.plan view (datum_of key.now) }
         requires range { shard < (view_at J.plan view).shards }
         requires number { self.old.number < last_number }
-        requires found { Finds J.plan self.old.shown view (datum_of key.now) rows cut }
-        ensures read { IfOk result (λ a.
-            IsRead J.plan self.old self.new view (datum_of key.now) a.rows a.cut) }
+        requires found { Finds J.plan self.old.shown view (datum_of key.now) rows.now cut.now }
+        ensures read { OnOk result
+            (IsRead J.plan self.old self.new view (datum_of key.now) rows.now cut.now.lengths) }
         ensures refused { IfErr result (λ e. IsUnread J.plan self.old self.new e) }
     {
         let room = self.word.room_for(alloc, view, shard, cut.lengths())?;
         self.number += 1;
         self.word.learn(&self.seen);
         let book = self.routes.book();
-        let answered = self.word.answer(book, view, shard, key, &rows, &cut, room);
+        let answered = self.word.answer(book, view, shard, key, rows, cut, room);
         self.seen = self.word.part();
         match answered {
-            Ok(()) => {
-                let cut = cut.into_lengths();
-                Ok(Answer { rows, cut })
-            }
+            Ok(()) => Ok(()),
             Err(_) => {
                 self.stolen = true;
                 Err(Refused::Stolen)
@@ -213,9 +220,8 @@ impl<J: Naming> Session<J> {
                 Ok(found) => found,
                 Err(refused) => return Err(refused),
             };
-            match found {
-                Found::Hit(answer) => return Ok(answer),
-                Found::Miss => (),
+            if let Some(answer) = found {
+                return Ok(answer);
             }
             match self.wait_for(rt, alloc, view, key, &mut turns) {
                 Ok(()) => (),

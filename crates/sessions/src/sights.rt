@@ -1,24 +1,24 @@
 //! What a session looks at of each shard of each view.
 ghost use Rattle.std.specs.Prelude.{◌≡◌, ◌⊎◌, ◌<◌, ◌≤◌, ℕ, length, map, min, slice_get, slice_index_or};
-ghost use Rattle.std.specs.Prelude.{IfOk, IfErr, IsTrue, Some};
+ghost use Rattle.std.specs.Prelude.{IfOk, IfErr, IfNone, IfSome, IsTrue, Some};
 ghost use Rattle.row.specs.{Bags.Each, Cells.datum_of};
-ghost use Rattle.sessions.specs.{Sights.Finds, Sights.HasAll, Sights.IsCut, Sights.IsCutAt, Callers.AreLater, Callers.reader_of, Reads.IsHidden};
+ghost use Rattle.sessions.specs.{Sights.FindsOver, Sights.HasAll, Sights.IsCut, Sights.IsCutAt, Callers.AreLater, Callers.reader_of, Reads.IsHidden};
 ghost use Rattle.model.specs.Histories.{len_at, view_shard};
 ghost use Rattle.book.specs.Fronts.{FrontView};
 ghost use Rattle.packet.specs.Readers.{readers as readers_of};
-ghost use Rattle.shown.specs.Looks.{OnHit, OnMiss};
 ghost use Rattle.schedule.specs.Codes.{reader_in};
 
 use book::cut::{Cut, Cuts};
 use book::front::Front;
 use book::law::Naming;
 use book::part::Part;
+use key_rows::shared::SharedRows;
 use model::lengths::Lengths;
 use packet::reader::Reader;
 use routes::routes::Routes;
 use row::refused::Refused;
 use row::value::Value;
-use shown::reader::{Look, ShownReader};
+use shown::reader::ShownReader;
 use std::alloc::Global;
 use std::marker::Model;
 
@@ -50,8 +50,8 @@ impl<J: Naming> Sights<J> {
         Sights { readers }
     }
 
-    /// Looks a key up in what is shown of its view shard. Errors: `NoMemory`; it may then have seen
-    /// more.
+    /// Looks a key up in what is shown of its view shard: its rows and, in `cut`, the cut of a hit.
+    /// Errors: `NoMemory`; it may then have seen more.
     #[inline(always)]
     pub(crate) fn look(
         &mut self,
@@ -59,19 +59,21 @@ impl<J: Naming> Sights<J> {
         place: usize,
         view: usize,
         key: &Value,
-    ) -> Result<Look<J>, Refused>
+        cut: &mut Option<Cut<J>>,
+    ) -> Result<Option<SharedRows>, Refused>
         requires place { slice_get (readers_of J.plan) place ≡ Some (record {
           view = view;
           shard = view_shard J.plan view (datum_of key.now);
         }) }
         ensures later { AreLater self.old self.new }
         ensures shards { map reader_of self.new ≡ readers_of J.plan }
-        ensures hit { IfOk result (OnHit (λ rows cut.
-            Finds J.plan self.new view (datum_of key.now) rows cut)) }
-        ensures miss { IfOk result (OnMiss (IsHidden J.plan self.new view (datum_of key.now))) }
+        ensures hit { IfOk result (λ found. IfSome found (λ rows.
+            FindsOver J.plan self.new view (datum_of key.now) rows cut.new)) }
+        ensures miss { IfOk result (λ found.
+            IfNone found (IsHidden J.plan self.new view (datum_of key.now))) }
         ensures only { IfErr result (λ e. e ≡ Refused.NoMemory) }
     {
-        self.readers[place].look(alloc, key)
+        self.readers[place].look(alloc, key, cut)
     }
 
     // They are of all shards of all views.

@@ -1,16 +1,14 @@
 -- What a look found.
-use Rattle.std.specs.Prelude.{List}
-use Rattle.row.specs.Cells.{Cells}
-use Rattle.book.specs.Sessions.{CutView}
-use Rattle.shown.specs.declared.reader.Look.{Look}
-use Rattle.shown.specs.declared.reader.Look.TheVariants.{Hit, Miss}
+use Rattle.std.specs.Prelude.{◌≡◌, List, Option, Some}
+use Rattle.row.specs.Cells.{Datum, Cells}
+use Rattle.plan.specs.Layouts.{Layout}
+use Rattle.book.specs.Sessions.{CutView, fronts}
+use Rattle.shown.specs.Snapshots.{Snapshot, shown_at}
 
--- what holds of the rows and the cut of a hit
-abbrev pub OnHit : {J : Type 0} → (List Cells → CutView → Type 0) → Look J → Type 0
-OnHit P (Hit rows cut) = P rows cut
-OnHit P Miss = Unit {0}
-
--- what holds at a miss
-abbrev pub OnMiss : {J : Type 0} → Type 0 → Look J → Type 0
-OnMiss P (Hit rows cut) = Unit {0}
-OnMiss P Miss = P
+-- a hit: the key is shown with these rows, and the cut is that over which they are shown
+pub record IsHit (p : Layout) (seen : Snapshot) (k : Datum) (rs : List Cells) (cut : Option CutView) : Type 0 where
+  pub rows : shown_at seen.rows k ≡ Some rs
+  pub over : CutView
+  pub there : cut ≡ Some over
+  pub lengths : over.lengths ≡ seen.lengths
+  pub fronts : fronts p over ≡ seen.cut

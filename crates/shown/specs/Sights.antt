@@ -27,6 +27,11 @@ seen_or d (Some s) = s
 abbrev pub nothing : Snapshot
 nothing = record { view = 0; shard = 0; lengths = []; cut = []; rows = []; asked = 0 }
 
+-- what the reader that is there has seen
+abbrev pub seen_by : Option (Option Snapshot) → Option Snapshot
+seen_by None = None
+seen_by (Some s) = s
+
 -- a snapshot of this shard of this view was seen
 abbrev pub IsOf : ℕ → ℕ → Option Snapshot → Type 0
 IsOf view shard None = ⊥

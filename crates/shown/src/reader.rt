@@ -1,15 +1,14 @@
 //! Readers of a shown copy.
-ghost use Rattle.std.specs.Prelude.{◌≡◌, IfOk, IfErr, IfSome, None, Some};
+ghost use Rattle.std.specs.Prelude.{◌≡◌, IfOk, IfErr, IfNone, IfSome, None, Some};
 ghost use Rattle.left_right.specs.Sides.{view as sight_of};
 ghost use Rattle.book.specs.Sessions.{fronts};
 ghost use Rattle.row.specs.Cells.{datum_of};
-ghost use Rattle.shown.specs.{Looks.OnHit, Looks.OnMiss, Snapshots.Snapshot, Snapshots.IsLater, Snapshots.IsTrue, Snapshots.shown_at, Sights.HasLooked, Sights.IsOf, Sights.seen_or, Sights.nothing};
+ghost use Rattle.shown.specs.{Looks.IsHit, Snapshots.Snapshot, Snapshots.IsLater, Snapshots.IsTrue, Snapshots.shown_at, Sights.HasLooked, Sights.IsOf, Sights.seen_or, Sights.nothing};
 
 use crate::rule::{Looks, Published, Sight};
 use crate::shown::Shown;
 use book::cut::Cut;
 use book::law::Naming;
-use core::mem::replace_with;
 use key_rows::shared::SharedRows;
 use left_right::reader::Reader;
 use row::refused::Refused;
@@ -20,29 +19,23 @@ use std::marker::Model;
 /// A reader of a shown copy, seen as what it has seen last.
 #[derive(Drop)]
 pub struct ShownReader<J: Naming> {
-    reader: Reader<Shown<J>, Sight, Published>,
+    // (always there between two calls)
+    reader: Option<Reader<Shown<J>, Sight, Published>>,
     view: usize,
     shard: usize,
 }
 
 impl<J: Naming> Model for ShownReader<J> {
-    ghost use Rattle.std.specs.Prelude.{◌≡◌};
+    ghost use Rattle.std.specs.Prelude.{◌≡◌, option_map};
     ghost use Rattle.left_right.specs.Sides.{view as sight_of};
-    ghost use Rattle.shown.specs.{Snapshots.Snapshot, Sights.IsOf, Sights.seen_or, Sights.nothing};
+    ghost use Rattle.shown.specs.{Snapshots.Snapshot, Sights.IsOf, Sights.seen_by, Sights.seen_or, Sights.nothing};
 
     ghost Value = { Snapshot };
 
-    ghost view = { λ r. seen_or nothing (sight_of r.reader.place) };
+    ghost view = { λ r. seen_or nothing (seen_by (option_map (λ x. sight_of x.place) r.reader)) };
 
-    ghost invariant = { λ r. IsOf r.view r.shard (sight_of r.reader.place) };
-}
-
-/// What a look found: the rows of the key and the cut over which they are its answer, or that the
-/// key is not shown.
-#[derive(Drop)]
-pub enum Look<J: Naming> {
-    Hit(SharedRows, Cut<J>),
-    Miss,
+    ghost invariant = { λ r. IsOf r.view r.shard
+        (seen_by (option_map (λ x. sight_of x.place) r.reader)) };
 }
 
 impl<J: Naming> ShownReader<J> {
@@ -66,7 +59,7 @@ impl<J: Naming> ShownReader<J> {
             return Err(AllocError);
         }
         Ok(ShownReader {
-            reader,
+            reader: Some(reader),
             view,
             shard,
         })
@@ -78,28 +71,40 @@ impl<J: Naming> ShownReader<J> {
         ensures view { IfOk result (λ r. r.view ≡ self.now.view) }
         ensures shard { IfOk result (λ r. r.shard ≡ self.now.shard) }
     {
-        let reader = self.reader.factory().reader()?;
+        let Some(reader) = &self.reader else {
+            unreachable!();
+        };
+        let reader = reader.factory().reader()?;
         ShownReader::over(reader, self.view, self.shard)
     }
 
-    /// Looks a key up in what is shown, which is true and no less than what it has seen: a hit has
-    /// the rows and the cut of one look, a miss says that the key was not shown. It waits for
-    /// nobody. Errors: `NoMemory`, also where the writer is gone; it may then have seen more. Cost:
-    /// one look-up by hash, a step on the count of the key's rows, and a copy of the cut.
+    /// Looks a key up in what is shown, which is true and no less than what it has seen: a hit
+    /// gives the rows of the key and, in `cut`, the cut over which they are its answer, both of one
+    /// look; nothing is given where the key was not shown. What stands in `cut` but for a hit is not
+    /// said. It waits for nobody. Errors: `NoMemory`, also where the writer is gone; it may then have
+    /// seen more. Cost: one look-up by hash, a step on the count of the key's rows, and a copy of the
+    /// cut.
     #[inline(always)]
-    pub fn look(&mut self, alloc: Global, key: &Value) -> Result<Look<J>, Refused>
+    pub fn look(
+        &mut self,
+        alloc: Global,
+        key: &Value,
+        cut: &mut Option<Cut<J>>,
+    ) -> Result<Option<SharedRows>, Refused>
         ensures later { IsLater self.old self.new }
         ensures truth { IfOk result (λ _. IsTrue J.plan self.new) }
-        ensures hit { IfOk result (OnHit (λ rows cut.
-            (shown_at self.new.rows (datum_of key.now) ≡ Some rows)
-            × (cut.lengths ≡ self.new.lengths) × (fronts J.plan cut ≡ self.new.cut))) }
-        ensures miss { IfOk result (OnMiss (shown_at self.new.rows (datum_of key.now) ≡ None)) }
+        ensures hit { IfOk result (λ found. IfSome found (λ rows.
+            IsHit J.plan self.new (datum_of key.now) rows cut.new)) }
+        ensures miss { IfOk result (λ found.
+            IfNone found (shown_at self.new.rows (datum_of key.now) ≡ None)) }
         ensures only { IfErr result (λ e. e ≡ Refused.NoMemory) }
     {
-        let (view, shard) = (self.view, self.shard);
-        replace_with(&mut self.reader, (alloc, key), |reader, (alloc, key)| {
-            look_by(reader, alloc, key, view, shard)
-        })
+        let Some(reader) = self.reader.take() else {
+            unreachable!();
+        };
+        let (reader, found) = look_by(reader, alloc, key, self.view, self.shard, cut);
+        self.reader = Some(reader);
+        found
     }
 
     /// Looks at the cut of what is shown, which is no less than what it has seen. It waits for
@@ -110,10 +115,12 @@ impl<J: Naming> ShownReader<J> {
             × (fronts J.plan c ≡ self.new.cut)) }
         ensures only { IfErr result (λ e. e ≡ Refused.NoMemory) }
     {
-        let (view, shard) = (self.view, self.shard);
-        replace_with(&mut self.reader, alloc, |reader, alloc| {
-            cut_by(reader, alloc, view, shard)
-        })
+        let Some(reader) = self.reader.take() else {
+            unreachable!();
+        };
+        let (reader, cut) = cut_by(reader, alloc, self.view, self.shard);
+        self.reader = Some(reader);
+        cut
     }
 
     /// Looks at how many requests the view's shard had sent; the count stays at the greatest
@@ -124,10 +131,12 @@ impl<J: Naming> ShownReader<J> {
         ensures asked { IfOk result (λ n. n ≡ self.new.asked) }
         ensures only { IfErr result (λ e. e ≡ Refused.NoMemory) }
     {
-        let (view, shard) = (self.view, self.shard);
-        replace_with(&mut self.reader, (), |reader, ()| {
-            asked_by(reader, view, shard)
-        })
+        let Some(reader) = self.reader.take() else {
+            unreachable!();
+        };
+        let (reader, asked) = asked_by(reader, self.view, self.shard);
+        self.reader = Some(reader);
+        asked
     }
 }
 
@@ -139,22 +148,24 @@ fn look_by<J: Naming>(
     key: &Value,
     view: usize,
     shard: usize,
-) -> (Reader<Shown<J>, Sight, Published>, Result<Look<J>, Refused>)
+    cut: &mut Option<Cut<J>>,
+) -> (
+    Reader<Shown<J>, Sight, Published>,
+    Result<Option<SharedRows>, Refused>,
+)
     requires of { IsOf view shard (sight_of reader.place) }
     ensures looked { HasLooked view shard (sight_of reader.place) (sight_of result.0.place) }
     ensures truth { IfOk result.1 (λ _. IsTrue J.plan (seen_or nothing (sight_of result.0.place))) }
-    ensures hit { IfOk result.1 (OnHit (λ rows cut.
-        (shown_at (seen_or nothing (sight_of result.0.place)).rows (datum_of key.now) ≡ Some rows)
-        × (cut.lengths ≡ (seen_or nothing (sight_of result.0.place)).lengths)
-        × (fronts J.plan cut ≡ (seen_or nothing (sight_of result.0.place)).cut))) }
-    ensures miss { IfOk result.1 (OnMiss (shown_at
+    ensures hit { IfOk result.1 (λ found. IfSome found (λ rows. IsHit J.plan
+        (seen_or nothing (sight_of result.0.place)) (datum_of key.now) rows cut.new)) }
+    ensures miss { IfOk result.1 (λ found. IfNone found (shown_at
         (seen_or nothing (sight_of result.0.place)).rows (datum_of key.now) ≡ None)) }
     ensures only { IfErr result.1 (λ e. e ≡ Refused.NoMemory) }
 {
     match reader.enter_as::<Looks>() {
         Err(reader) => (reader, Err(Refused::NoMemory)),
         Ok(reading) => {
-            let found = found(alloc, reading.get(), key);
+            let found = found(alloc, reading.get(), key, cut);
             (reading.leave(), found)
         }
     }
@@ -203,18 +214,24 @@ fn asked_by<J: Naming>(
     }
 }
 
-// The key's entry and a copy of the cut.
+// The key's rows, and in `cut` a copy of the cut.
 #[inline(always)]
-fn found<J: Naming>(alloc: Global, shown: &Shown<J>, key: &Value) -> Result<Look<J>, Refused>
-    ensures hit { IfOk result (OnHit (λ rows cut.
-        (shown_at shown.now.rows (datum_of key.now) ≡ Some rows)
-        × (cut.lengths ≡ shown.now.lengths) × (fronts J.plan cut ≡ shown.now.cut))) }
-    ensures miss { IfOk result (OnMiss (shown_at shown.now.rows (datum_of key.now) ≡ None)) }
+fn found<J: Naming>(
+    alloc: Global,
+    shown: &Shown<J>,
+    key: &Value,
+    cut: &mut Option<Cut<J>>,
+) -> Result<Option<SharedRows>, Refused>
+    ensures hit { IfOk result (λ found. IfSome found (λ rows.
+        IsHit J.plan shown.now (datum_of key.now) rows cut.new)) }
+    ensures miss { IfOk result (λ found.
+        IfNone found (shown_at shown.now.rows (datum_of key.now) ≡ None)) }
     ensures only { IfErr result (λ e. e ≡ Refused.NoMemory) }
 {
     let Some(rows) = shown.entry(key) else {
-        return Ok(Look::Miss);
+        return Ok(None);
     };
     let rows = rows.try_clone(alloc)?;
-    Ok(Look::Hit(rows, shown.cut().try_clone(alloc)?))
+    *cut = Some(shown.cut().try_clone(alloc)?);
+    Ok(Some(rows))
 }

@@ -37,22 +37,22 @@ invariant_of-self g c =
     let p = g.J.Naming.plan in
     let k = datum_of c.args.key.now in
     let found = rw (← c.self.view_is) at c.requires.found in
-    let r = has_read p c.self.inside.word c.learn.new.self c.answer-answered.new.self c.args.view c.args.shard k c.args.rows c.args.cut.lengths c.learn.ensures.stays c.requires.shard c.in-Ok.ensures.answered in
+    let r = has_read p c.self.inside.word c.learn.new.self c.answer-answered.new.self c.args.view c.args.shard k c.args.rows.now c.args.cut.now.lengths c.learn.ensures.stays c.requires.shard c.in-Ok.ensures.answered in
     let h = c.answer-answered.new.self.seen in
     let grown = prefix_trans c.self.inside.seen c.learn.new.self.seen h c.learn.ensures.others (added_grows p _ c.learn.new.self.seen _ h r.item) in
-    rw (c.part.ensures.part, r.session) (caller_read p _ (c.self.inside.number + 1) c.args.cut.seen h c.args.cut.lengths c.answer-answered.new.self.floors _ c.args.view (view_shard p c.args.view k) c.self.invariant.0 grown c.lengths.ensures.within c.answer-answered.ensures.others r.floors, omega (arith, r.answered, c.self.invariant.1), looks_read p _ (c.self.inside.number + 1) h c.args.cut.lengths c.answer-answered.new.self.floors c.args.view (view_shard p c.args.view k) found.sight c.self.invariant.2 found.is found.cut r.floors, c.self.invariant.3)
+    rw (c.part.ensures.part, r.session) (caller_read p _ (c.self.inside.number + 1) c.args.cut.now.seen h c.args.cut.now.lengths c.answer-answered.new.self.floors _ c.args.view (view_shard p c.args.view k) c.self.invariant.0 grown c.lengths.ensures.within c.answer-answered.ensures.others r.floors, omega (arith, r.answered, c.self.invariant.1), looks_read p _ (c.self.inside.number + 1) h c.args.cut.now.lengths c.answer-answered.new.self.floors c.args.view (view_shard p c.args.view k) found.sight c.self.invariant.2 found.is found.cut r.floors, c.self.invariant.3)
 
-pub invariant_of-self-in-Err-1 : goal.invariant_of-self-in-Err-1
-invariant_of-self-in-Err-1 g c = stolen_kept g.J.Naming.plan c.self.inside.number c.self.inside.stolen c.self.inside.seen c.self.inside.accepted.items c.self.inside.sights c.self.inside.word c.learn.new.self c.answer-answered.new.self c.learn.ensures.stays c.learn.ensures.others c.in-Err.ensures.stolen g.J.Naming.sessions _ c.part.ensures.part c.self.invariant.0 c.self.invariant.1 c.self.invariant.2 c.self.invariant.3
+pub invariant_of-self-in-Err : goal.invariant_of-self-in-Err
+invariant_of-self-in-Err g c = stolen_kept g.J.Naming.plan c.self.inside.number c.self.inside.stolen c.self.inside.seen c.self.inside.accepted.items c.self.inside.sights c.self.inside.word c.learn.new.self c.answer-answered.new.self c.learn.ensures.stays c.learn.ensures.others c.in-Err.ensures.stolen g.J.Naming.sessions _ c.part.ensures.part c.self.invariant.0 c.self.invariant.1 c.self.invariant.2 c.self.invariant.3
 
 pub returns-in-Ok-clause-read : goal.returns-in-Ok-clause-read
 returns-in-Ok-clause-read g c =
     let p = g.J.Naming.plan in
     let k = datum_of c.args.key.now in
     let found = rw (← c.self.view_is) at c.requires.found in
-    let r = has_read p c.self.inside.word c.learn.new.self c.answer-answered.new.self c.args.view c.args.shard k c.args.rows c.args.cut.lengths c.learn.ensures.stays c.requires.shard c.in-Ok.ensures.answered in
-    let shows : Shows p _ c.args.view k c.args.rows c.args.cut.lengths = record { sight = found.sight; is = found.is; rows = found.rows; answers = found.answers; cut = found.cut } in
-    rw (← c.self.view_is, c.part.ensures.part, r.session, r.answered, c.into_lengths-cut.ensures) (read_done p _ c.args.view k c.args.rows c.args.cut.lengths c.learn.new.self.seen c.answer-answered.new.self.seen c.answer-answered.new.self.floors c.self.invariant.2 c.learn.ensures.others r.once r.item shows r.floors)
+    let r = has_read p c.self.inside.word c.learn.new.self c.answer-answered.new.self c.args.view c.args.shard k c.args.rows.now c.args.cut.now.lengths c.learn.ensures.stays c.requires.shard c.in-Ok.ensures.answered in
+    let shows : Shows p _ c.args.view k c.args.rows.now c.args.cut.now.lengths = record { sight = found.sight; is = found.is; rows = found.rows; answers = found.answers; cut = found.cut } in
+    rw (← c.self.view_is, c.part.ensures.part, r.session, r.answered) (read_done p _ c.args.view k c.args.rows.now c.args.cut.now.lengths c.learn.new.self.seen c.answer-answered.new.self.seen c.answer-answered.new.self.floors c.self.invariant.2 c.learn.ensures.others r.once r.item shows r.floors)
 
 pub returns-in-Err-clause-refused : goal.returns-in-Err-clause-refused
 returns-in-Err-clause-refused g c = rw (← c.self.view_is) (stolen_undone g.J.Naming.plan c.self.inside.number c.self.inside.stolen c.self.inside.seen c.self.inside.accepted.items c.self.inside.sights c.self.inside.word c.learn.new.self c.answer-answered.new.self c.learn.ensures.stays c.learn.ensures.others c.in-Err.ensures.stolen _ c.part.ensures.part)

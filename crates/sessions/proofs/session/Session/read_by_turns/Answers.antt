@@ -13,18 +13,18 @@ look-requires-clause-number g c = c.loop-turn.invariant.number
 pub returns-in-Err-clause-refused : goal.returns-in-Err-clause-refused
 returns-in-Err-clause-refused g c = inl (looked_undone g.J.Naming.plan _ _ _ c.loop-turn.invariant.looked _ c.in-Err.ensures.refused)
 
-pub returns-in-Hit-clause-answer : goal.returns-in-Hit-clause-answer
-returns-in-Hit-clause-answer g c =
-    let read = rw c.in-Hit.is at c.in-Ok.ensures.hit in
+pub returns-in-Some-found-clause-answer : goal.returns-in-Some-found-clause-answer
+returns-in-Some-found-clause-answer g c =
+    let read = rw c.in-Some-found.is at c.in-Ok.ensures.hit in
     looked_read g.J.Naming.plan _ _ _ c.loop-turn.invariant.looked _ _ _ _ read
 
 pub returns-in-Err-wait_for-clause-refused : goal.returns-in-Err-wait_for-clause-refused
 returns-in-Err-wait_for-clause-refused g c =
-    let missed = rw c.in-Miss.is at c.in-Ok.ensures.miss in
+    let missed = rw c.in_default.is at c.in-Ok.ensures.miss in
     looked_unanswered g.J.Naming.plan _ _ _ _ (looked_again g.J.Naming.plan _ _ _ c.loop-turn.invariant.looked missed.looked) c.in-Err-wait_for.ensures.refused
 
 pub loop-turn-preserved : goal.loop-turn-preserved
 loop-turn-preserved g c =
-    let missed = rw c.in-Miss.is at c.in-Ok.ensures.miss in
+    let missed = rw c.in_default.is at c.in-Ok.ensures.miss in
     let total = looked_again g.J.Naming.plan _ _ _ c.loop-turn.invariant.looked missed.looked in
     rw c.in-Ok-wait_for.ensures.waited (record { looked = total; number = omega (arith, c.loop-turn.invariant.number, ap (λ (x : Caller). x.number) missed.looked.after) })
