@@ -5,6 +5,7 @@ mod Splits
 mod Rooms
 pub mod Sends
 mod Arrivals
+pub mod Joins
 pub mod KeySteps
 pub mod GroupSteps
 pub mod GroupChanges

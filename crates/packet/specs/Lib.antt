@@ -8,6 +8,7 @@ pub mod Truth
 pub mod Split
 pub mod Lines
 pub mod Codes
+pub mod Joined
 pub mod Answers
 pub mod Outboxes
 pub mod Groups

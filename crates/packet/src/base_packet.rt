@@ -1,7 +1,7 @@
 //! What a base shard tells a stage shard.
-ghost use Rattle.std.specs.Prelude.{◌≡◌, ◌==◌, ◌≤◌, length, not};
+ghost use Rattle.std.specs.Prelude.{◌≡◌, ◌==◌, ◌≤◌, length, not, None, IsTrue};
 ghost use Rattle.std.specs.Option.{option_map};
-ghost use Rattle.packet.specs.{Codes.mark_in, Codes.packet_of, Codes.EndsAt, Truth.IsTrueBase};
+ghost use Rattle.packet.specs.{Codes.mark_in, Codes.packet_of, Codes.EndsAt, Joined.GoesOnBase, Joined.IsBareBase, Truth.IsTrueBase};
 
 use crate::piece::Piece;
 use crate::request::Marker;
@@ -103,6 +103,21 @@ impl<F: Fronts> BasePacket<F> {
         !self.changes.is_empty()
     }
 
+    /// Whether it is an update: it carries neither a piece nor a marker. Constant time.
+    pub fn is_update(&self) -> bool
+        ensures { IsTrue result → (self.now.piece ≡ None) × (self.now.marker ≡ None) }
+    {
+        self.piece.is_none() && self.marker.is_none()
+    }
+
+    /// Whether it only says how far its log has come: it carries no row, no piece and no marker.
+    /// Constant time.
+    pub fn is_bare(&self) -> bool
+        ensures { IsTrue result → IsBareBase self.now }
+    {
+        self.is_update() && !self.has_changes()
+    }
+
     /// How many entries the front has that it starts at.
     pub fn from(&self) -> u64
         ensures { result ≡ length self.now.from }
@@ -129,6 +144,16 @@ impl<F: Fronts> BasePacket<F> {
         ensures { mark_in result ≡ self.now.marker }
     {
         self.marker
+    }
+
+    /// Joins to it the packet that goes on where it ends and only says how far the log has come: it
+    /// ends where that one ends. Takes no memory. Constant time.
+    pub fn join(&mut self, next: BasePacket<F>)
+        requires { GoesOnBase self.old next }
+        ensures { self.new ≡ record self.old { to = next.to } }
+    {
+        let (to, _, _) = next.into_parts();
+        self.to = to;
     }
 
     /// The front that it ends at, its changes and its piece, moved out of it.

@@ -1,6 +1,6 @@
 //! What a stage shard tells a view shard.
-ghost use Rattle.std.specs.Prelude.{◌≡◌, ◌==◌, length, not, IfOk};
-ghost use Rattle.packet.specs.{Codes.stage_packet_of, Lines.AreOf, Lines.entries_of, Lines.plan_of, Truth.IsTrueStage};
+ghost use Rattle.std.specs.Prelude.{◌≡◌, ◌==◌, ◌≤◌, length, not, None, IfOk, IsTrue};
+ghost use Rattle.packet.specs.{Codes.stage_packet_of, Joined.GoesOnStage, Joined.IsBareStage, Joined.at_most, Lines.AreOf, Lines.entries_of, Lines.fronts_to, Lines.lengths_of, Lines.plan_of, Truth.IsTrueStage};
 
 use crate::keyed::Keyed;
 use crate::line::Line;
@@ -45,7 +45,28 @@ impl<F: Fronts> Drop for Parts<F> {
     }
 }
 
+// Makes each number of entries at most that of the front of its source. Takes no memory.
+fn keep_within<F: Fronts>(counts: &mut [u64], line: &Line<F>)
+    ensures { counts.new ≡ at_most counts.old (lengths_of line.now) }
+{
+    for source in 0..counts.len().min(line.sources()) {
+        counts[source] = counts[source].min(line.front(source).len());
+    }
+}
+
 impl<F: Fronts> Parts<F> {
+    // Has them end at another line. Takes no memory.
+    fn end_at(&mut self, to: Line<F>)
+        ensures stage { self.new.stage ≡ self.old.stage }
+        ensures reader { self.new.reader ≡ self.old.reader }
+        ensures from { self.new.from.items ≡ at_most self.old.from.items (lengths_of self.old.to) }
+        ensures to { self.new.to ≡ to }
+        ensures content { self.new.content ≡ self.old.content }
+    {
+        keep_within(self.from.as_mut_slice(), &self.to);
+        self.to = to;
+    }
+
     fn into_fields(self) -> (SmallVec<u64, 4>, Line<F>, Content)
         ensures from { result.0 ≡ self.from }
         ensures to { result.1 ≡ self.to }
@@ -131,12 +152,36 @@ impl<F: Fronts> StagePacket<F> {
         !self.parts.content.changes.is_empty()
     }
 
+    /// Whether it is an update: it carries neither a piece nor a marker. Constant time.
+    pub fn is_update(&self) -> bool
+        ensures { IsTrue result → (self.now.piece ≡ None) × (self.now.marker ≡ None) }
+    {
+        self.parts.content.piece.is_none() && self.parts.content.marker.is_none()
+    }
+
+    /// Whether it only says how far its logs have come: it carries no row, no eviction, no piece
+    /// and no marker. Constant time.
+    pub fn is_bare(&self) -> bool
+        ensures { IsTrue result → IsBareStage self.now }
+    {
+        self.is_update() && !self.has_changes() && self.parts.content.evicts.is_empty()
+    }
+
     /// The shard of a view that it goes to.
     pub fn reader(&self) -> Reader
         ensures view { result.view ≡ self.now.view }
         ensures shard { result.shard ≡ self.now.shard }
     {
         self.parts.reader
+    }
+
+    /// How many entries of each log it starts at, with a number for each source at least. Constant
+    /// time.
+    pub fn from(&self) -> &[u64]
+        ensures starts { fronts_to result.now self.now.to ≡ self.now.from }
+        ensures count { length self.now.to ≤ length result.now }
+    {
+        &self.parts.from
     }
 
     /// The line that it ends at, which has a front of each source of its plan.
@@ -146,6 +191,16 @@ impl<F: Fronts> StagePacket<F> {
         ensures of { AreOf self.now.plan result.now }
     {
         &self.parts.to
+    }
+
+    /// Joins to it the packet that goes on where it ends and only says how far the logs have come:
+    /// it ends where that one ends. Takes no memory. Cost: a step for each source.
+    pub fn join(&mut self, next: StagePacket<F>)
+        requires { GoesOnStage self.old next }
+        ensures { self.new ≡ record self.old { to = next.to } }
+    {
+        let (_, to, _) = next.into_parts();
+        self.parts.end_at(to);
     }
 
     /// Its parts, moved out of it.

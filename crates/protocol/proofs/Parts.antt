@@ -17,6 +17,7 @@ use Rattle.packet.specs.Messages.{Ask, BasePacketView, Sent, Mark, Piece, none_o
 use Rattle.packet.specs.Keys.{Keys}
 use Rattle.partial.specs.States.{is_filled, is_hole}
 use Rattle.packet.specs.Truth.{Grows, Given}
+use Rattle.packet.proofs.Joins.{grows_chains}
 use Rattle.protocol.proofs.Leading.{IsRun, IsBaseRun, IsBaseStep}
 use Rattle.protocol.specs.Stages.{Stage, ToStage, packet, request, order, Done, knows, behind}
 use Rattle.protocol.specs.StageSteps.{step, quiet, takes, packet_taken, order_taken, goes, looks, look_all, look, asks, answered, caps, cap_kept, shrink, oldest_goes, first_goes, excess}
@@ -26,14 +27,6 @@ use Rattle.model.proofs.Prefixes.{prefix_self, prefix_trans}
 use Rattle.protocol.proofs.Runs.{leads_append, run_append, line_self}
 
 -- ---- runs
-pub grows_chains : (xs ys zs : Line) → Grows xs ys → Grows ys zs → Grows xs zs
-grows_chains [] [] [] g h = tt
-grows_chains [] [] (z ∷ zs) g h = absurd h
-grows_chains [] (y ∷ ys) zs g h = absurd g
-grows_chains (x ∷ xs) [] zs g h = absurd g
-grows_chains (x ∷ xs) (y ∷ ys) [] g h = absurd h
-grows_chains (x ∷ xs) (y ∷ ys) (z ∷ zs) g h = (prefix_trans x y z g.0 h.0, grows_chains xs ys zs g.1 h.1)
-
 base_append : (a b c : List Change) (xs ys : List BasePacketView) → IsBaseRun a xs b → IsBaseRun b ys c → IsBaseRun a (xs ++ ys) c
 base_append a b c xs ys r q = leads_append (λ (x : BasePacketView). x.from) (λ (x : BasePacketView). x.to) IsBaseStep a b c xs ys r q
 

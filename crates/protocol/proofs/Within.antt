@@ -23,7 +23,8 @@ use Rattle.protocol.specs.WorldSteps.{lengths_of}
 use Rattle.protocol.proofs.Wired.{Wired, entries_at, entries_in, source_logs, lines_of, IsLogOf}
 use Rattle.protocol.proofs.Lists.{each_at, pair_size}
 use Rattle.protocol.proofs.EdgeLaws.{edges_before}
-use Rattle.protocol.proofs.Parts.{base_runs, stage_runs, grows_chains}
+use Rattle.packet.proofs.Joins.{grows_chains}
+use Rattle.protocol.proofs.Parts.{base_runs, stage_runs}
 use Rattle.protocol.proofs.Spots.{each_range, at_start}
 use Rattle.protocol.proofs.Moves.{line_len}
 use Rattle.std.proofs.lemmas.List.{length-map}
