@@ -1,10 +1,11 @@
 -- The messages that were taken from the inbox of a domain and are not begun.
 use Rattle.std.specs.Prelude.{◌≡◌, ℕ, List, [], Some, drop, slice_get, slice_index_or, slice_set}
 
--- the messages of each edge, in order, the edge that it is at, and how many turns have begun
+-- the messages of each edge, in order, the edge that it is at, that of the message that was begun last, and how many turns have begun
 pub record TurnsView (T : Type 0) : Type 0 where
   pub waiting : List (List T)
   pub edge : ℕ
+  pub begun : ℕ
   pub turn : ℕ
 
 -- the message is the first of an edge, and is taken off it

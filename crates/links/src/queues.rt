@@ -1,5 +1,6 @@
 //! Messages by the edge on which they came.
 ghost use Rattle.std.specs.Prelude.{◌≡◌, ◌<◌, ◌∷◌, ◌++◌, [], length, drop, not, replicate, slice_get, slice_index_or, slice_set, is_ok, if◌then◌else◌, IfOk, IfErr, OnOk, OnErr};
+ghost use Rattle.std.specs.Option.{option_map};
 ghost use Rattle.links.specs.Queued.{holds_any, put_on};
 
 use std::alloc::{AllocError, AllocFailed, Global};
@@ -65,6 +66,18 @@ impl<T: Drop> Queues<T> {
         true
     }
 
+    /// The first message of an edge, which stays; `None` where none waits, or there is no such edge.
+    /// Constant time.
+    pub fn first(&self, edge: usize) -> Option<&T>
+        ensures { option_map (λ m. m.now) result
+            ≡ slice_get (slice_index_or self.now edge []) 0 }
+    {
+        match self.waiting.get(edge) {
+            Some(waiting) => waiting.first(),
+            None => None,
+        }
+    }
+
     /// The first message of an edge, taken off; `None` where none waits, or there is no such edge.
     /// Takes no memory. Constant time.
     pub fn pop(&mut self, edge: usize) -> Option<T>
@@ -109,6 +122,12 @@ struct Waiting<T: Drop> {
 }
 
 impl<T: Drop> Waiting<T> {
+    fn first(&self) -> Option<&T>
+        ensures { option_map (λ m. m.now) result ≡ slice_get self.now 0 }
+    {
+        self.messages.front()
+    }
+
     fn pop(&mut self) -> Option<T>
         ensures first { result ≡ slice_get self.old 0 }
         ensures rest { self.new ≡ drop 1 self.old }

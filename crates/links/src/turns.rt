@@ -1,5 +1,6 @@
 //! The order in which a domain takes what comes to it.
 ghost use Rattle.std.specs.Prelude.{◌≡◌, ◌+◌, [], true, false, drop, min, length, replicate, slice_get, slice_index_or, slice_set, IfNone, IfOk, IfSome};
+ghost use Rattle.std.specs.Option.{option_map};
 ghost use Rattle.links.specs.Queued.{holds_any};
 ghost use Rattle.links.specs.Turns.{IsFirst};
 
@@ -19,6 +20,7 @@ use std::sync::Wait;
 pub struct Turns<T: Drop> {
     taken: Queues<T>,
     edge: usize,
+    begun: usize,
     turn: u64,
     // It is known that none is left.
     drained: bool,
@@ -30,7 +32,12 @@ impl<T: Drop> Model for Turns<T> {
 
     ghost Value = { TurnsView T };
 
-    ghost view = { λ t. record { waiting = t.taken; edge = t.edge; turn = t.turn } };
+    ghost view = { λ t. record {
+      waiting = t.taken;
+      edge = t.edge;
+      begun = t.begun;
+      turn = t.turn;
+    } };
 
     ghost invariant = { λ t. t.drained ≡ true → holds_any t.taken ≡ false };
 }
@@ -42,12 +49,14 @@ impl<T: Drop> Turns<T> {
         ensures { IfOk result (λ t. t ≡ record {
           waiting = replicate edges [];
           edge = 0;
+          begun = 0;
           turn = 0;
         }) }
     {
         Ok(Turns {
             taken: Queues::new(alloc, edges)?,
             edge: 0,
+            begun: 0,
             turn: 0,
             drained: false,
         })
@@ -121,11 +130,35 @@ impl<T: Drop> Turns<T> {
         ensures rest { self.new ≡ record self.old {
           waiting = slice_set self.old.waiting edge (drop 1
               (slice_index_or self.old.waiting edge []));
+          begun = edge;
           turn = min (self.old.turn + 1) u64.MAX;
         } }
     {
         self.turn = self.turn.saturating_add(1);
         self.drained = false;
+        self.begun = edge;
         self.taken.pop(edge)
+    }
+
+    /// The message behind the one that was begun last, on its edge, which stays. Constant time.
+    pub fn behind(&self) -> Option<&T>
+        ensures { option_map (λ m. m.now) result
+            ≡ slice_get (slice_index_or self.now.waiting self.now.begun []) 0 }
+    {
+        self.taken.first(self.begun)
+    }
+
+    /// The message behind the one that was begun last, on its edge, taken off: it is a part of the same
+    /// turn. Takes no memory. Constant time.
+    pub fn take_behind(&mut self) -> Option<T>
+        ensures behind { result
+            ≡ slice_get (slice_index_or self.old.waiting self.old.begun []) 0 }
+        ensures rest { self.new ≡ record self.old {
+          waiting = slice_set self.old.waiting self.old.begun (drop 1
+              (slice_index_or self.old.waiting self.old.begun []));
+        } }
+    {
+        self.drained = false;
+        self.taken.pop(self.begun)
     }
 }

@@ -156,3 +156,25 @@ fn the_edge_of_the_last_message_comes_first(rt: HostRuntime) -> Result<(), Fail>
     assert!(rt; turns_of(&rt, rt.alloc(), &inbox)? == 45123);
     Ok(())
 }
+
+// What is behind the first message that comes, twice taken and before.
+fn behind_the_first<R: Wait>(
+    rt: &R,
+    alloc: Global,
+    inbox: &Inbox<u64>,
+) -> Result<[Option<u64>; 3], Refused> {
+    let mut turns = Turns::new(alloc, inbox.edges())?;
+    turns.take(rt, inbox);
+    let _first = turns.pop();
+    let seen = turns.behind().copied();
+    Ok([seen, turns.take_behind(), turns.take_behind()])
+}
+
+// What is behind a message is of its edge, and is taken once.
+#[test]
+fn a_message_is_taken_behind_another(rt: HostRuntime) -> Result<(), Fail> {
+    let inbox = three_edges(&rt, rt.alloc())?;
+    let [seen, first, second] = behind_the_first(&rt, rt.alloc(), &inbox)?;
+    assert!(rt; seen == Some(5) && first == Some(5) && second.is_none());
+    Ok(())
+}
