@@ -1,4 +1,5 @@
 pub mod Due
+pub mod Lines
 pub mod Replies
 pub mod Shows
 pub mod Starting

@@ -8,5 +8,5 @@ pub mod outbox;
 mod parts;
 pub mod shown;
 mod takes;
-mod turn;
+pub mod turn;
 pub mod view_domain;

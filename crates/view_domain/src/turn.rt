@@ -17,7 +17,7 @@ fn is_held<F: Fronts>(from: u64, to: &F, held: &F) -> bool
 
 /// Whether the first entries of each front of a line, up to these lengths, are those of the line
 /// that is held, which is of the same logs. Cost: two lengths of each front.
-pub(crate) fn starts_at<F: Fronts>(from: &[u64], to: &Line<F>, held: &Line<F>) -> bool
+pub fn starts_at<F: Fronts>(from: &[u64], to: &Line<F>, held: &Line<F>) -> bool
     requires one { Pointwise F.are_one held.now to.now }
     requires count { length to.now ≤ length from.now }
     ensures { IsTrue result ↔ (fronts_to from.now (entries_of to.now) ≡ entries_of held.now) }

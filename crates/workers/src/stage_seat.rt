@@ -1,6 +1,6 @@
 //! The turns of a stage shard in its thread.
-ghost use Rattle.std.specs.Prelude.{◌≡◌, ◌<◌, [], length, slice_set};
-ghost use Rattle.packet.specs.{Messages.none_of, Outboxes.packets_on, declared.mode.Mode.TheVariants.Running};
+ghost use Rattle.std.specs.Prelude.{◌≡◌, ◌<◌, [], length, slice_set, IfSome};
+ghost use Rattle.packet.specs.{Joined.GoesOnBase, Messages.none_of, Outboxes.packets_on, declared.mode.Mode.TheVariants.Running};
 ghost use Rattle.stage_steps.specs.{Codes.message_of, Outboxes.AreEdges, Outboxes.IsSilent};
 ghost use Rattle.domain_turns.specs.StageTurns.{Went};
 
@@ -11,9 +11,11 @@ use book::front::Front;
 use book::law::Naming;
 use book::part::Part;
 use domain_turns::fresh::fresh_stage;
+use domain_turns::joins::base_goes_on;
 use domain_turns::stage_turns::take_stage;
 use links::inbox::{Inbox, Taking};
 use links::turns::Turns;
+use packet::base_packet::BasePacket;
 use packet::mode::Mode;
 use plan::domain::DomainId;
 use routes::mail::ViewMail;
@@ -83,7 +85,8 @@ impl<'r, J: Naming, R: Wait> StageSeat<'r, J, R> {
     }
 
     /// Takes what waits in its inbox, and then one message after the other, at most `BATCH`, and
-    /// sends what it makes of each. It waits for none. What comes when it has stopped is lost.
+    /// sends what it makes of each; with a packet those behind it that only say how far its log has
+    /// come, as one. It waits for none. What comes when it has stopped is lost.
     pub(crate) fn serve<G: Gate>(&mut self, gate: &G) -> Taking {
         let taking = self.turns.take(self.worker.rt, self.inbox);
         for _ in 0..BATCH {
@@ -102,9 +105,62 @@ impl<'r, J: Naming, R: Wait> StageSeat<'r, J, R> {
         };
         let id = DomainId::Stage(self.worker.place);
         gate.before(id, number);
+        let message = joined(message, &mut self.turns);
         take(&self.worker, &mut self.domain, message, &mut self.out);
         gate.after(id, number);
         true
+    }
+}
+
+// The message; a packet with those behind it on its edge that only say how far its log has come.
+fn joined<J: Naming>(
+    message: ToStage<Front<J>>,
+    turns: &mut Turns<ToStage<Front<J>>>,
+) -> ToStage<Front<J>>
+    ensures edges { length turns.new.waiting ≡ length turns.old.waiting }
+{
+    match message {
+        ToStage::Packet { source, packet } => ToStage::Packet {
+            source,
+            packet: join_behind(packet, turns),
+        },
+        ToStage::Request(request) => ToStage::Request(request),
+        ToStage::Order(key) => ToStage::Order(key),
+    }
+}
+
+// The packet, with those behind it that go on from it and only say how far its log has come.
+fn join_behind<J: Naming>(
+    mut packet: BasePacket<Front<J>>,
+    turns: &mut Turns<ToStage<Front<J>>>,
+) -> BasePacket<Front<J>>
+    ensures edges { length turns.new.waiting ≡ length turns.old.waiting }
+{
+    for _ in 0..BATCH {
+        let Some(next) = take_next(&packet, turns) else {
+            break;
+        };
+        packet.join(next);
+    }
+    packet
+}
+
+// The packet behind this one, where it goes on from it and only says how far the log has come, taken
+// off its edge.
+fn take_next<J: Naming>(
+    packet: &BasePacket<Front<J>>,
+    turns: &mut Turns<ToStage<Front<J>>>,
+) -> Option<BasePacket<Front<J>>>
+    ensures goes_on { IfSome result (λ next. GoesOnBase packet.now next) }
+    ensures edges { length turns.new.waiting ≡ length turns.old.waiting }
+{
+    match turns.behind() {
+        Some(ToStage::Packet { packet: next, .. }) if base_goes_on(packet, next) => (),
+        _ => return None,
+    }
+    match turns.take_behind() {
+        Some(ToStage::Packet { packet: next, .. }) => Some(next),
+        _ => None,
     }
 }
 

@@ -1,6 +1,6 @@
 //! The turns of a view shard in its thread.
 ghost use Rattle.std.specs.Prelude.{◌≡◌, ◌<◌, [], length, slice_get, IfOk, IfSome};
-ghost use Rattle.packet.specs.{Outboxes.packets_on, Messages.none_of, Readers.readers, declared.mode.Mode.TheVariants.Running};
+ghost use Rattle.packet.specs.{Joined.GoesOnStage, Outboxes.packets_on, Messages.none_of, Readers.readers, declared.mode.Mode.TheVariants.Running};
 ghost use Rattle.domain_turns.specs.ViewTurns.{Shows, Went};
 ghost use Rattle.schedule.specs.Codes.{reader_in};
 ghost use Rattle.shown.specs.{Boards.pending, Boards.shown, Snapshots.Snapshot, Snapshots.first_of};
@@ -12,12 +12,14 @@ use book::front::Front;
 use book::law::Naming;
 use book::part::Part;
 use domain_turns::fresh::fresh_view;
+use domain_turns::joins::stage_goes_on;
 use domain_turns::view_turns::take_from_inbox;
 use domain_turns::waits::Waits;
 use links::inbox::{Inbox, Taking};
 use links::turns::Turns;
 use packet::mode::Mode;
 use packet::reader::Reader;
+use packet::stage_packet::StagePacket;
 use plan::domain::DomainId;
 use routes::mail::ViewMail;
 use routes::routes::Routes;
@@ -95,8 +97,8 @@ impl<'r, J: Naming, R: Wait> ViewSeat<'r, J, R> {
 
 impl<'r, J: Naming, R: Wait + Drop> ViewSeat<'r, J, R> {
     /// Takes what waits in its inbox, and then one message after the other, at most `BATCH`, shows
-    /// what it makes of each, and sends what it makes. It waits for none. What comes when it has
-    /// stopped is lost.
+    /// what it makes of each, and sends what it makes; with a packet those behind it that only say how
+    /// far its logs have come, as one. It waits for none. What comes when it has stopped is lost.
     pub(crate) fn serve<G: Gate>(&mut self, writer: &mut ShownWriter<J, R>, gate: &G) -> Taking
         requires shows { self.old.mode ≡ Running → Shows self.old (shown writer.old) }
         requires idle { self.old.mode ≡ Running → pending writer.old ≡ [] }
@@ -125,6 +127,7 @@ impl<'r, J: Naming, R: Wait + Drop> ViewSeat<'r, J, R> {
         };
         let id = DomainId::View(self.domain.view(), self.domain.shard());
         gate.before(id, number);
+        let mail = joined(mail, &mut self.turns);
         let message = message_of(mail, &mut self.waits);
         take(
             &self.worker,
@@ -139,6 +142,55 @@ impl<'r, J: Naming, R: Wait + Drop> ViewSeat<'r, J, R> {
         }
         gate.after(id, number);
         true
+    }
+}
+
+// The message; a packet with those behind it on its edge that only say how far its logs have come.
+fn joined<J: Naming>(mail: ViewMail<J>, turns: &mut Turns<ViewMail<J>>) -> ViewMail<J>
+    ensures edges { length turns.new.waiting ≡ length turns.old.waiting }
+{
+    match mail {
+        ViewMail::Packet { stage, packet } => ViewMail::Packet {
+            stage,
+            packet: join_behind(packet, turns),
+        },
+        ViewMail::Want(want) => ViewMail::Want(want),
+        ViewMail::Order { key } => ViewMail::Order { key },
+    }
+}
+
+// The packet, with those behind it that go on from it and only say how far its logs have come.
+fn join_behind<J: Naming>(
+    mut packet: StagePacket<Front<J>>,
+    turns: &mut Turns<ViewMail<J>>,
+) -> StagePacket<Front<J>>
+    ensures edges { length turns.new.waiting ≡ length turns.old.waiting }
+{
+    for _ in 0..BATCH {
+        let Some(next) = take_next(&packet, turns) else {
+            break;
+        };
+        packet.join(next);
+    }
+    packet
+}
+
+// The packet behind this one, where it goes on from it and only says how far the logs have come, taken
+// off its edge.
+fn take_next<J: Naming>(
+    packet: &StagePacket<Front<J>>,
+    turns: &mut Turns<ViewMail<J>>,
+) -> Option<StagePacket<Front<J>>>
+    ensures goes_on { IfSome result (λ next. GoesOnStage packet.now next) }
+    ensures edges { length turns.new.waiting ≡ length turns.old.waiting }
+{
+    match turns.behind() {
+        Some(ViewMail::Packet { packet: next, .. }) if stage_goes_on(packet, next) => (),
+        _ => return None,
+    }
+    match turns.take_behind() {
+        Some(ViewMail::Packet { packet: next, .. }) => Some(next),
+        _ => None,
     }
 }
 
