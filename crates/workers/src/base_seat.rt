@@ -18,7 +18,7 @@ use model::places::place_of;
 use packet::outbox::Outbox;
 use plan::domain::DomainId;
 use plan::plan::Plan;
-use routes::mail::BaseMail;
+use routes::mail::{BaseMail, Reply};
 use routes::routes::Routes;
 use row::refused::Refused;
 use schedule::wire::Spot;
@@ -120,9 +120,8 @@ fn id_of(plan: &Plan, base: usize) -> DomainId {
     }
 }
 
-// Takes one message, and sends its packets and then its reply, so that who has the reply finds the
-// packets on their way. Where a packet is refused the domain stops: a later one would come out of
-// turn.
+// Takes one message, and sends its packets and its reply. Where a packet is refused the domain
+// stops: a later one would come out of turn.
 fn take<J: Naming, R: Wait>(
     worker: &Worker<J, R>,
     source: Option<usize>,
@@ -149,21 +148,21 @@ fn take<J: Naming, R: Wait>(
         mail,
         out,
     );
-    pass_on(worker, source, domain, out);
-    if let Some(reply) = reply {
-        routes.reply(rt, reply);
-    }
+    pass_on(worker, source, domain, out, reply);
     if was_running && domain.is_stopped() {
         routes.stop(rt, Spot::Base(base));
     }
 }
 
-// Sends what it put out; where a packet is refused the domain stops.
+// Sends what it put out: the packets that carry changes, since a session may wait to be shown them,
+// then the reply, so that who has it finds those packets on their way, and then the other packets. It
+// leaves the outbox clear. Where a packet is refused none is sent after it, and the domain stops.
 fn pass_on<J: Naming, R: Wait>(
     worker: &Worker<J, R>,
     source: Option<usize>,
     domain: &mut BaseDomain<Front<J>>,
     out: &mut Outbox<Front<J>>,
+    reply: Option<Reply<J>>,
 )
     requires reply { out.old.reply ≡ None }
     ensures goes_on { domain.new.stopped ≡ false → domain.new ≡ domain.old }
@@ -171,25 +170,13 @@ fn pass_on<J: Naming, R: Wait>(
     ensures clear { IsClear out.new }
     ensures edges { length out.new.edges ≡ length out.old.edges }
 {
-    if send(worker, source, out).is_err() {
+    let sent = send_changes(worker, source, out);
+    if let Some(reply) = reply {
+        worker.routes.reply(worker.rt, reply);
+    }
+    if send_rest(worker, source, out, sent).is_err() {
         domain.stop();
     }
-}
-
-// Sends the packets to each stage shard, in order, those first that carry changes, since a session
-// may wait to be shown them, and leaves the outbox clear. Errors: a packet was refused; none is sent
-// after it.
-fn send<J: Naming, R: Wait>(
-    worker: &Worker<J, R>,
-    source: Option<usize>,
-    out: &mut Outbox<Front<J>>,
-) -> Result<(), Refused>
-    requires reply { out.old.reply ≡ None }
-    ensures clear { IsClear out.new }
-    ensures edges { length out.new.edges ≡ length out.old.edges }
-{
-    let sent = send_changes(worker, source, out);
-    send_rest(worker, source, out, sent)
 }
 
 // Sends the packets to each stage shard to which one carries changes, and leaves none there. Errors:
