@@ -1,8 +1,9 @@
 //! The turns of a stage shard in its thread.
-ghost use Rattle.std.specs.Prelude.{◌≡◌, ◌<◌, [], length, slice_set, IfSome};
+ghost use Rattle.std.specs.Prelude.{◌≡◌, ◌<◌, [], length, slice_set, IfNone, IfSome};
 ghost use Rattle.packet.specs.{Joined.GoesOnBase, Messages.none_of, Outboxes.packets_on, declared.mode.Mode.TheVariants.Running};
 ghost use Rattle.stage_steps.specs.{Codes.message_of, Outboxes.AreEdges, Outboxes.IsSilent};
 ghost use Rattle.domain_turns.specs.StageTurns.{Went};
+ghost use Rattle.workers.specs.Joined.{IsJoinedStage};
 
 use crate::duty::StageDuty;
 use crate::gate::Gate;
@@ -117,6 +118,7 @@ fn joined<J: Naming>(
     message: ToStage<Front<J>>,
     turns: &mut Turns<ToStage<Front<J>>>,
 ) -> ToStage<Front<J>>
+    ensures joined { IsJoinedStage message result }
     ensures edges { length turns.new.waiting ≡ length turns.old.waiting }
 {
     match message {
@@ -134,6 +136,7 @@ fn join_behind<J: Naming>(
     mut packet: BasePacket<Front<J>>,
     turns: &mut Turns<ToStage<Front<J>>>,
 ) -> BasePacket<Front<J>>
+    ensures same { result ≡ record packet { to = result.to } }
     ensures edges { length turns.new.waiting ≡ length turns.old.waiting }
 {
     for _ in 0..BATCH {
@@ -152,6 +155,7 @@ fn take_next<J: Naming>(
     turns: &mut Turns<ToStage<Front<J>>>,
 ) -> Option<BasePacket<Front<J>>>
     ensures goes_on { IfSome result (λ next. GoesOnBase packet.now next) }
+    ensures none { IfNone result (turns.new ≡ turns.old) }
     ensures edges { length turns.new.waiting ≡ length turns.old.waiting }
 {
     match turns.behind() {
@@ -160,7 +164,7 @@ fn take_next<J: Naming>(
     }
     match turns.take_behind() {
         Some(ToStage::Packet { packet: next, .. }) => Some(next),
-        _ => None,
+        _ => unreachable!(),
     }
 }
 

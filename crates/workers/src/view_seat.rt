@@ -1,10 +1,11 @@
 //! The turns of a view shard in its thread.
-ghost use Rattle.std.specs.Prelude.{◌≡◌, ◌<◌, [], length, slice_get, IfOk, IfSome};
+ghost use Rattle.std.specs.Prelude.{◌≡◌, ◌<◌, [], length, slice_get, IfNone, IfOk, IfSome};
 ghost use Rattle.packet.specs.{Joined.GoesOnStage, Outboxes.packets_on, Messages.none_of, Readers.readers, declared.mode.Mode.TheVariants.Running};
 ghost use Rattle.domain_turns.specs.ViewTurns.{Shows, Went};
 ghost use Rattle.schedule.specs.Codes.{reader_in};
 ghost use Rattle.shown.specs.{Boards.pending, Boards.shown, Snapshots.Snapshot, Snapshots.first_of};
 ghost use Rattle.view_domain.specs.Outboxes.{IsClear};
+ghost use Rattle.workers.specs.Joined.{IsJoinedView};
 
 use crate::gate::Gate;
 use crate::worker::{Worker, send_each};
@@ -147,6 +148,7 @@ impl<'r, J: Naming, R: Wait + Drop> ViewSeat<'r, J, R> {
 
 // The message; a packet with those behind it on its edge that only say how far its logs have come.
 fn joined<J: Naming>(mail: ViewMail<J>, turns: &mut Turns<ViewMail<J>>) -> ViewMail<J>
+    ensures joined { IsJoinedView mail result }
     ensures edges { length turns.new.waiting ≡ length turns.old.waiting }
 {
     match mail {
@@ -164,6 +166,7 @@ fn join_behind<J: Naming>(
     mut packet: StagePacket<Front<J>>,
     turns: &mut Turns<ViewMail<J>>,
 ) -> StagePacket<Front<J>>
+    ensures same { result ≡ record packet { to = result.to } }
     ensures edges { length turns.new.waiting ≡ length turns.old.waiting }
 {
     for _ in 0..BATCH {
@@ -182,6 +185,7 @@ fn take_next<J: Naming>(
     turns: &mut Turns<ViewMail<J>>,
 ) -> Option<StagePacket<Front<J>>>
     ensures goes_on { IfSome result (λ next. GoesOnStage packet.now next) }
+    ensures none { IfNone result (turns.new ≡ turns.old) }
     ensures edges { length turns.new.waiting ≡ length turns.old.waiting }
 {
     match turns.behind() {
@@ -190,7 +194,7 @@ fn take_next<J: Naming>(
     }
     match turns.take_behind() {
         Some(ViewMail::Packet { packet: next, .. }) => Some(next),
-        _ => None,
+        _ => unreachable!(),
     }
 }
 

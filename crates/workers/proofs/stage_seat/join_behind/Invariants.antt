@@ -2,4 +2,7 @@ use Rattle.std.proofs.Common.{◌≡◌, length}
 use Rattle.workers.proofs.stage_seat.join_behind.Given as goal
 
 abbrev pub invariant-loop : goal.invariant-loop
-invariant-loop g l = length l.turns.waiting ≡ length l.fn.turns.waiting
+invariant-loop g l = record {
+  same : l.packet ≡ record l.fn.packet { to = l.packet.to };
+  edges : length l.turns.waiting ≡ length l.fn.turns.waiting;
+}
