@@ -5,7 +5,7 @@ use Rattle.std.specs.Cmp.Lexicographic.{slice_cmp}
 use Rattle.row.specs.Cells.{datum_cmp, row_cmp}
 use Rattle.row.specs.Packed.{whole}
 
-whole_cmp : (a b : ℕ) → datum_cmp (whole a) (whole b) ≡ nat_cmp a b
+pub whole_cmp : (a b : ℕ) → datum_cmp (whole a) (whole b) ≡ nat_cmp a b
 whole_cmp a b = search rules
 
 pub wholes_cmp : (xs ys : List ℕ) → row_cmp (map whole xs) (map whole ys) ≡ slice_cmp nat_cmp xs ys

@@ -1,93 +1,87 @@
--- A map from values, of which numbers of 64 bits stand apart: what a look-up finds, and what a step leaves.
-use Rattle.std.proofs.Common.{◌≡◌, ℤ, pos, negsuc, Bool, true, false, ◌&&◌, cond, leb, leb-true, SFits, w64, to_z, of_z, to_z-of_z, List, [], ◌∷◌, ◌++◌, map, min, All, Option, Some, None, IsSome, IsPermutation, MatchOption, HashMap, int_eq, refl, ap, sym, subst, ◌∙◌, arith}
+-- A map from values, of which whole numbers below 2^32 stand apart: what a look-up finds, and what a step leaves.
+use Rattle.std.proofs.Common.{◌≡◌, ℕ, ◌^◌, pos, negsuc, Bool, true, false, cond, nat_eq, nat_lt, List, [], ◌∷◌, ◌++◌, map, min, All, Option, Some, None, IsSome, IsPermutation, MatchOption, HashMap, refl, ap, sym, subst, ◌∙◌}
 use Rattle.std.specs.List.{AllByRecursion, IsDistinct}
 use Rattle.std.specs.Map.{keys_of, values_of, lookup, remove_entry, set_value}
+use Rattle.std.specs.Ordering.{is_eq}
 use Rattle.std.specs.HashMap.{IsReordered, IsUnique, PutsEntry, WritesThrough, get, keys, spare}
+use Rattle.std.specs.Cmp.{unsigned_tied}
 use Rattle.std.proofs.lemmas.List.Elements.{All-head, All-tail, All-cons, All-same}
 use Rattle.std.proofs.lemmas.List.Sorted.{All-permutation, length_permutation, IsPermutation-append, IsPermutation-append_right, IsPermutation-map, IsPermutation-middle, IsPermutation-refl, IsPermutation-sym, IsPermutation-trans}
 use Rattle.std.proofs.lemmas.Map.{NonePasses, lookup-none}
 use Rattle.std.proofs.lemmas.Map.Keys.{IsDistinct-head, IsDistinct-tail, IsDistinct-cons}
 use Rattle.row.specs.Cells.{Datum, int, text, datum_of, same}
 use Rattle.row.specs.Groups.{equal}
-use Rattle.row.specs.Numbers.{is_small}
 use Rattle.row.specs.ValueMaps.{small_in, key_or, kept_key, both, whole, IsParted, Writes}
 use Rattle.row.specs.declared.value.Value.{Value}
 use Rattle.row.specs.declared.value.Value.TheVariants.{Int}
 use Rattle.row.proofs.Cellwise.{eq-value_is}
 use Rattle.row.proofs.Keys.{equal_is}
+use Rattle.row.proofs.NumberOrder.{whole_cmp}
 
-abbrev IsSmall : ℤ → Type 0
-IsSmall n = is_small n ≡ true
+abbrev IsSmall : ℕ → Type 0
+IsSmall n = nat_lt n (2 ^ 32) ≡ true
 
 abbrev IsOther : Value → Type 0
 IsOther v = small_in (datum_of v) ≡ None
 
 -- ---- keys
--- a number of 64 bits
-record IsNumber (d : Datum) (n : ℤ) : Type 0 where
-  is : d ≡ int n
+-- a whole number below 2^32
+record IsNumber (d : Datum) (n : ℕ) : Type 0 where
+  is : d ≡ int (pos n)
   small : IsSmall n
 
-number_is : (d : Datum) (n : ℤ) → small_in d ≡ Some n → IsNumber d n
+number_is : (d : Datum) (n : ℕ) → small_in d ≡ Some n → IsNumber d n
 number_is (text t) n h = absurd cc
-number_is (int m) n h = step (is_small m) refl h
+number_is (int (negsuc m)) n h = absurd cc
+number_is (int (pos m)) n h = step (nat_lt m (2 ^ 32)) refl h
   where
-    step : (b : Bool) → is_small m ≡ b → cond b (Some m) None ≡ Some n → IsNumber (int m) n
-    step true e q = let own : m ≡ n = cc in record { is = ap int own; small = subst IsSmall own e }
+    step : (b : Bool) → nat_lt m (2 ^ 32) ≡ b → cond b (Some m) None ≡ Some n → IsNumber (int (pos m)) n
+    step true e q = let own : m ≡ n = cc in record { is = ap (λ a. int (pos a)) own; small = subst IsSmall own e }
     step false e q = absurd cc
 
-number_small : (n : ℤ) → IsSmall n → small_in (int n) ≡ Some n
+number_small : (n : ℕ) → IsSmall n → small_in (int (pos n)) ≡ Some n
 number_small n h = ap (λ b. cond b (Some n) None) h
-
--- it is read as it was written
-small_fits : (n : ℤ) → IsSmall n → SFits w64 n
-small_fits (pos m) h = record { sfits = omega (arith, leb-true m 9223372036854775807 h) }
-small_fits (negsuc m) h = record { sfits = omega (arith, leb-true m 9223372036854775807 (first (leb m 9223372036854775807) h)) }
-  where
-    first : (b : Bool) → (b && true) ≡ true → b ≡ true
-    first true e = refl
-    first false e = e
-
-pub number_read : (key : Value) (n : ℤ) → small_in (datum_of key) ≡ Some n → to_z w64 (of_z w64 n) ≡ n
-number_read key n is = let own = number_is (datum_of key) n is in to_z-of_z (small_fits n own.small)
 
 -- the key that is kept is the same value
 pub kept_is : (key : Value) → datum_of (kept_key key) ≡ datum_of key
 kept_is key = step (small_in (datum_of key)) refl
   where
-    step : (o : Option ℤ) → small_in (datum_of key) ≡ o → datum_of (key_or o key) ≡ datum_of key
+    step : (o : Option ℕ) → small_in (datum_of key) ≡ o → datum_of (key_or o key) ≡ datum_of key
     step None e = refl
     step (Some n) e = let own = number_is (datum_of key) n e in sym own.is
 
--- a number of 64 bits, and what is none
-apart : (k j : Value) (n : ℤ) → small_in (datum_of k) ≡ Some n → IsOther j → equal k j ≡ false
+-- a whole number below 2^32, and what is none
+apart : (k j : Value) (n : ℕ) → small_in (datum_of k) ≡ Some n → IsOther j → equal k j ≡ false
 apart k j n is other = step (equal k j) refl
   where
     step : (b : Bool) → equal k j ≡ b → b ≡ false
     step false e = refl
     step true e = let both_are : Some n ≡ None = sym is ∙ (ap small_in (equal_is k j e) ∙ other) in absurd cc
 
-apart_back : (k j : Value) (n : ℤ) → small_in (datum_of k) ≡ Some n → IsOther j → equal j k ≡ false
+apart_back : (k j : Value) (n : ℕ) → small_in (datum_of k) ≡ Some n → IsOther j → equal j k ≡ false
 apart_back k j n is other = step (equal j k) refl
   where
     step : (b : Bool) → equal j k ≡ b → b ≡ false
     step false e = refl
     step true e = let both_are : Some n ≡ None = sym is ∙ (sym (ap small_in (equal_is j k e)) ∙ other) in absurd cc
 
--- two numbers of 64 bits
-numbers_equal : (k j : Value) (n m : ℤ) → small_in (datum_of k) ≡ Some n → small_in (datum_of j) ≡ Some m → equal k j ≡ int_eq n m
+-- two whole numbers below 2^32
+same_number : (n m : ℕ) → same (int (pos n)) (int (pos m)) ≡ nat_eq n m
+same_number n m = ap is_eq (whole_cmp n m) ∙ unsigned_tied n m
+
+numbers_equal : (k j : Value) (n m : ℕ) → small_in (datum_of k) ≡ Some n → small_in (datum_of j) ≡ Some m → equal k j ≡ nat_eq n m
 numbers_equal k j n m is is' =
     let own = number_is (datum_of k) n is in
     let its = number_is (datum_of j) m is' in
-    eq-value_is k j ∙ (ap (λ d. same d (datum_of j)) own.is ∙ ap (same (int n)) its.is)
+    eq-value_is k j ∙ (ap (λ d. same d (datum_of j)) own.is ∙ (ap (same (int (pos n))) its.is ∙ same_number n m))
 
-number_equal : (k : Value) (n m : ℤ) → small_in (datum_of k) ≡ Some n → equal k (Int m) ≡ int_eq n m
+number_equal : (k : Value) (n m : ℕ) → small_in (datum_of k) ≡ Some n → equal k (Int (pos m)) ≡ nat_eq n m
 number_equal k n m is =
     let own = number_is (datum_of k) n is in
-    eq-value_is k (Int m) ∙ ap (λ d. same d (int m)) own.is
+    eq-value_is k (Int (pos m)) ∙ (ap (λ d. same d (int (pos m))) own.is ∙ same_number n m)
 
 module _ {X : Type 0} where
-  none_among : (k : Value) (n : ℤ) → small_in (datum_of k) ≡ Some n → (os : List (Value × X)) → All IsOther (keys_of os) → NonePasses (equal k) os
+  none_among : (k : Value) (n : ℕ) → small_in (datum_of k) ≡ Some n → (os : List (Value × X)) → All IsOther (keys_of os) → NonePasses (equal k) os
   none_among k n is [] h = tt
   none_among k n is (e ∷ os) h = (apart k e.0 n is (All-head IsOther e.0 (keys_of os) h), none_among k n is os (All-tail IsOther e.0 (keys_of os) h))
 
@@ -99,71 +93,71 @@ module _ {X : Type 0} where
   unremoved test [] h = refl
   unremoved test (e ∷ os) h = ap (λ b. cond b os (e ∷ remove_entry test os)) h.0 ∙ ap (λ t. e ∷ t) (unremoved test os h.1)
 
-  -- ---- a number of 64 bits is among the numbers alone
-  module _ (k : Value) (n : ℤ) (is : small_in (datum_of k) ≡ Some n) (os : List (Value × X)) (others : All IsOther (keys_of os)) where
-    lookup_number : (ns : List (ℤ × X)) → lookup (equal k) (both ns os) ≡ lookup (int_eq n) ns
+  -- ---- a whole number below 2^32 is among the numbers alone
+  module _ (k : Value) (n : ℕ) (is : small_in (datum_of k) ≡ Some n) (os : List (Value × X)) (others : All IsOther (keys_of os)) where
+    lookup_number : (ns : List (ℕ × X)) → lookup (equal k) (both ns os) ≡ lookup (nat_eq n) ns
     lookup_number [] = lookup-none (equal k) os (none_among k n is os others)
-    lookup_number (e ∷ ns) = ap (λ b. cond b (Some e.1) (lookup (equal k) (both ns os))) (number_equal k n e.0 is) ∙ ap (cond (int_eq n e.0) (Some e.1)) (lookup_number ns)
+    lookup_number (e ∷ ns) = ap (λ b. cond b (Some e.1) (lookup (equal k) (both ns os))) (number_equal k n e.0 is) ∙ ap (cond (nat_eq n e.0) (Some e.1)) (lookup_number ns)
 
-    set_number : (ns : List (ℤ × X)) (w : X) → set_value (equal k) (both ns os) w ≡ both (set_value (int_eq n) ns w) os
+    set_number : (ns : List (ℕ × X)) (w : X) → set_value (equal k) (both ns os) w ≡ both (set_value (nat_eq n) ns w) os
     set_number [] w = unchanged (equal k) os w (none_among k n is os others)
-    set_number (e ∷ ns) w = ap (λ b. cond b ((Int e.0, w) ∷ both ns os) ((Int e.0, e.1) ∷ set_value (equal k) (both ns os) w)) (number_equal k n e.0 is) ∙ step (int_eq n e.0) (set_number ns w)
+    set_number (e ∷ ns) w = ap (λ b. cond b ((Int (pos e.0), w) ∷ both ns os) ((Int (pos e.0), e.1) ∷ set_value (equal k) (both ns os) w)) (number_equal k n e.0 is) ∙ step (nat_eq n e.0) (set_number ns w)
       where
-        step : (b : Bool) → set_value (equal k) (both ns os) w ≡ both (set_value (int_eq n) ns w) os
-            → cond b ((Int e.0, w) ∷ both ns os) ((Int e.0, e.1) ∷ set_value (equal k) (both ns os) w) ≡ both (cond b ((e.0, w) ∷ ns) (e ∷ set_value (int_eq n) ns w)) os
+        step : (b : Bool) → set_value (equal k) (both ns os) w ≡ both (set_value (nat_eq n) ns w) os
+            → cond b ((Int (pos e.0), w) ∷ both ns os) ((Int (pos e.0), e.1) ∷ set_value (equal k) (both ns os) w) ≡ both (cond b ((e.0, w) ∷ ns) (e ∷ set_value (nat_eq n) ns w)) os
         step true h = refl
-        step false h = ap (λ t. (Int e.0, e.1) ∷ t) h
+        step false h = ap (λ t. (Int (pos e.0), e.1) ∷ t) h
 
-    remove_number : (ns : List (ℤ × X)) → remove_entry (equal k) (both ns os) ≡ both (remove_entry (int_eq n) ns) os
+    remove_number : (ns : List (ℕ × X)) → remove_entry (equal k) (both ns os) ≡ both (remove_entry (nat_eq n) ns) os
     remove_number [] = unremoved (equal k) os (none_among k n is os others)
-    remove_number (e ∷ ns) = ap (λ b. cond b (both ns os) ((Int e.0, e.1) ∷ remove_entry (equal k) (both ns os))) (number_equal k n e.0 is) ∙ step (int_eq n e.0) (remove_number ns)
+    remove_number (e ∷ ns) = ap (λ b. cond b (both ns os) ((Int (pos e.0), e.1) ∷ remove_entry (equal k) (both ns os))) (number_equal k n e.0 is) ∙ step (nat_eq n e.0) (remove_number ns)
       where
-        step : (b : Bool) → remove_entry (equal k) (both ns os) ≡ both (remove_entry (int_eq n) ns) os
-            → cond b (both ns os) ((Int e.0, e.1) ∷ remove_entry (equal k) (both ns os)) ≡ both (cond b ns (e ∷ remove_entry (int_eq n) ns)) os
+        step : (b : Bool) → remove_entry (equal k) (both ns os) ≡ both (remove_entry (nat_eq n) ns) os
+            → cond b (both ns os) ((Int (pos e.0), e.1) ∷ remove_entry (equal k) (both ns os)) ≡ both (cond b ns (e ∷ remove_entry (nat_eq n) ns)) os
         step true h = refl
-        step false h = ap (λ t. (Int e.0, e.1) ∷ t) h
+        step false h = ap (λ t. (Int (pos e.0), e.1) ∷ t) h
 
   -- ---- any other key is among the others alone
   module _ (k : Value) (is : IsOther k) (os : List (Value × X)) where
-    past : (m : ℤ) → IsSmall m → equal k (Int m) ≡ false
-    past m small = apart_back (Int m) k m (number_small m small) is
+    past : (m : ℕ) → IsSmall m → equal k (Int (pos m)) ≡ false
+    past m small = apart_back (Int (pos m)) k m (number_small m small) is
 
-    lookup_other : (ns : List (ℤ × X)) → All IsSmall (keys_of ns) → lookup (equal k) (both ns os) ≡ lookup (equal k) os
+    lookup_other : (ns : List (ℕ × X)) → All IsSmall (keys_of ns) → lookup (equal k) (both ns os) ≡ lookup (equal k) os
     lookup_other [] h = refl
     lookup_other (e ∷ ns) h = ap (λ b. cond b (Some e.1) (lookup (equal k) (both ns os))) (past e.0 (All-head IsSmall e.0 (keys_of ns) h)) ∙ lookup_other ns (All-tail IsSmall e.0 (keys_of ns) h)
 
-    set_other : (ns : List (ℤ × X)) (w : X) → All IsSmall (keys_of ns) → set_value (equal k) (both ns os) w ≡ both ns (set_value (equal k) os w)
+    set_other : (ns : List (ℕ × X)) (w : X) → All IsSmall (keys_of ns) → set_value (equal k) (both ns os) w ≡ both ns (set_value (equal k) os w)
     set_other [] w h = refl
     set_other (e ∷ ns) w h =
-        ap (λ b. cond b ((Int e.0, w) ∷ both ns os) ((Int e.0, e.1) ∷ set_value (equal k) (both ns os) w)) (past e.0 (All-head IsSmall e.0 (keys_of ns) h))
-        ∙ ap (λ t. (Int e.0, e.1) ∷ t) (set_other ns w (All-tail IsSmall e.0 (keys_of ns) h))
+        ap (λ b. cond b ((Int (pos e.0), w) ∷ both ns os) ((Int (pos e.0), e.1) ∷ set_value (equal k) (both ns os) w)) (past e.0 (All-head IsSmall e.0 (keys_of ns) h))
+        ∙ ap (λ t. (Int (pos e.0), e.1) ∷ t) (set_other ns w (All-tail IsSmall e.0 (keys_of ns) h))
 
-    remove_other : (ns : List (ℤ × X)) → All IsSmall (keys_of ns) → remove_entry (equal k) (both ns os) ≡ both ns (remove_entry (equal k) os)
+    remove_other : (ns : List (ℕ × X)) → All IsSmall (keys_of ns) → remove_entry (equal k) (both ns os) ≡ both ns (remove_entry (equal k) os)
     remove_other [] h = refl
     remove_other (e ∷ ns) h =
-        ap (λ b. cond b (both ns os) ((Int e.0, e.1) ∷ remove_entry (equal k) (both ns os))) (past e.0 (All-head IsSmall e.0 (keys_of ns) h))
-        ∙ ap (λ t. (Int e.0, e.1) ∷ t) (remove_other ns (All-tail IsSmall e.0 (keys_of ns) h))
+        ap (λ b. cond b (both ns os) ((Int (pos e.0), e.1) ∷ remove_entry (equal k) (both ns os))) (past e.0 (All-head IsSmall e.0 (keys_of ns) h))
+        ∙ ap (λ t. (Int (pos e.0), e.1) ∷ t) (remove_other ns (All-tail IsSmall e.0 (keys_of ns) h))
 
   -- ---- no two keys are equal
-  number_apart : (n : ℤ) → IsSmall n → (ns : List (ℤ × X)) (os : List (Value × X)) → All IsOther (keys_of os) → AllByRecursion (λ m. int_eq n m ≡ false) (keys_of ns)
-      → AllByRecursion (λ k. equal (Int n) k ≡ false) (keys_of (both ns os))
+  number_apart : (n : ℕ) → IsSmall n → (ns : List (ℕ × X)) (os : List (Value × X)) → All IsOther (keys_of os) → AllByRecursion (λ m. nat_eq n m ≡ false) (keys_of ns)
+      → AllByRecursion (λ k. equal (Int (pos n)) k ≡ false) (keys_of (both ns os))
   number_apart n small [] [] others h = tt
-  number_apart n small [] (e ∷ os) others h = (apart (Int n) e.0 n (number_small n small) (All-head IsOther e.0 (keys_of os) others), number_apart n small [] os (All-tail IsOther e.0 (keys_of os) others) h)
-  number_apart n small (e ∷ ns) os others h = (number_equal (Int n) n e.0 (number_small n small) ∙ h.0, number_apart n small ns os others h.1)
+  number_apart n small [] (e ∷ os) others h = (apart (Int (pos n)) e.0 n (number_small n small) (All-head IsOther e.0 (keys_of os) others), number_apart n small [] os (All-tail IsOther e.0 (keys_of os) others) h)
+  number_apart n small (e ∷ ns) os others h = (number_equal (Int (pos n)) n e.0 (number_small n small) ∙ h.0, number_apart n small ns os others h.1)
 
-  both_distinct : (ns : List (ℤ × X)) (os : List (Value × X)) → All IsSmall (keys_of ns) → All IsOther (keys_of os) → IsDistinct int_eq (keys_of ns) → IsDistinct equal (keys_of os) → IsDistinct equal (keys_of (both ns os))
+  both_distinct : (ns : List (ℕ × X)) (os : List (Value × X)) → All IsSmall (keys_of ns) → All IsOther (keys_of os) → IsDistinct nat_eq (keys_of ns) → IsDistinct equal (keys_of os) → IsDistinct equal (keys_of (both ns os))
   both_distinct [] os small others d e = e
   both_distinct (x ∷ ns) os small others d e =
-      IsDistinct-cons equal (Int x.0) (keys_of (both ns os)) (number_apart x.0 (All-head IsSmall x.0 (keys_of ns) small) ns os others (IsDistinct-head int_eq x.0 (keys_of ns) d))
-      (both_distinct ns os (All-tail IsSmall x.0 (keys_of ns) small) others (IsDistinct-tail int_eq x.0 (keys_of ns) d) e)
+      IsDistinct-cons equal (Int (pos x.0)) (keys_of (both ns os)) (number_apart x.0 (All-head IsSmall x.0 (keys_of ns) small) ns os others (IsDistinct-head nat_eq x.0 (keys_of ns) d))
+      (both_distinct ns os (All-tail IsSmall x.0 (keys_of ns) small) others (IsDistinct-tail nat_eq x.0 (keys_of ns) d) e)
 
   -- ---- in another order
-  both_permuted : (ns ms : List (ℤ × X)) (os ps : List (Value × X)) → IsPermutation ns ms → IsPermutation os ps → IsPermutation (both ns os) (both ms ps)
-  both_permuted ns ms os ps h k = IsPermutation-append (map (λ e. (Int e.0, e.1)) ns) (map (λ e. (Int e.0, e.1)) ms) os ps (IsPermutation-map (λ e. (Int e.0, e.1)) ns ms h) k
+  both_permuted : (ns ms : List (ℕ × X)) (os ps : List (Value × X)) → IsPermutation ns ms → IsPermutation os ps → IsPermutation (both ns os) (both ms ps)
+  both_permuted ns ms os ps h k = IsPermutation-append (map (λ e. (Int (pos e.0), e.1)) ns) (map (λ e. (Int (pos e.0), e.1)) ms) os ps (IsPermutation-map (λ e. (Int (pos e.0), e.1)) ns ms h) k
 
-  both_more : (ns : List (ℤ × X)) (os ps : List (Value × X)) (x : Value × X) → IsPermutation (x ∷ os) ps → IsPermutation (x ∷ both ns os) (both ns ps)
+  both_more : (ns : List (ℕ × X)) (os ps : List (Value × X)) (x : Value × X) → IsPermutation (x ∷ os) ps → IsPermutation (x ∷ both ns os) (both ns ps)
   both_more ns os ps x h =
-      let ms = map (λ (e : ℤ × X). (Int e.0, e.1)) ns in
+      let ms = map (λ (e : ℕ × X). (Int (pos e.0), e.1)) ns in
       IsPermutation-trans (x ∷ (ms ++ os)) (ms ++ x ∷ os) (ms ++ ps) (IsPermutation-sym (ms ++ x ∷ os) (x ∷ (ms ++ os)) (IsPermutation-middle ms x os)) (IsPermutation-append_right ms (x ∷ os) ps h)
 
 module _ {K X : Type 0} (P : K → Type 0) where
@@ -185,51 +179,51 @@ module _ {K X : Type 0} (P : K → Type 0) where
 
 module _ {X S T : Type 0} where
   -- ---- the two maps as one
-  pub whole_unique : (m : HashMap ℤ X S) (o : HashMap Value X T) → IsParted m o → IsUnique equal (whole m o)
+  pub whole_unique : (m : HashMap ℕ X S) (o : HashMap Value X T) → IsParted m o → IsUnique equal (whole m o)
   whole_unique m o p = both_distinct m.entries o.entries p.small p.apart p.numbers_unique p.others_unique
 
-  pub finds_number : (m : HashMap ℤ X S) (o : HashMap Value X T) → IsParted m o → (k : Value) (n : ℤ) → small_in (datum_of k) ≡ Some n → get equal (whole m o) k ≡ get int_eq m n
+  pub finds_number : (m : HashMap ℕ X S) (o : HashMap Value X T) → IsParted m o → (k : Value) (n : ℕ) → small_in (datum_of k) ≡ Some n → get equal (whole m o) k ≡ get nat_eq m n
   finds_number m o p k n is = lookup_number k n is o.entries p.apart m.entries
 
-  pub finds_other : (m : HashMap ℤ X S) (o : HashMap Value X T) → IsParted m o → (k : Value) → small_in (datum_of k) ≡ None → get equal (whole m o) k ≡ get equal o k
+  pub finds_other : (m : HashMap ℕ X S) (o : HashMap Value X T) → IsParted m o → (k : Value) → small_in (datum_of k) ≡ None → get equal (whole m o) k ≡ get equal o k
   finds_other m o p k is = lookup_other k is o.entries m.entries p.small
 
   -- ---- what a step on one of them leaves
-  module _ (m n : HashMap ℤ X S) (o : HashMap Value X T) (old : IsParted m o) (unique : IsUnique int_eq n) where
+  module _ (m n : HashMap ℕ X S) (o : HashMap Value X T) (old : IsParted m o) (unique : IsUnique nat_eq n) where
     parted_numbers : All IsSmall (keys n) → IsParted n o
     parted_numbers h = record { small = h; apart = old.apart; numbers_unique = unique; others_unique = old.others_unique }
 
     pub parted_same : n.entries ≡ m.entries → IsParted n o
     parted_same h = parted_numbers (All-same IsSmall (keys n) (keys m) (ap keys_of h) old.small)
 
-    module _ (key : Value) (x : ℤ) (is : small_in (datum_of key) ≡ Some x) where
+    module _ (key : Value) (x : ℕ) (is : small_in (datum_of key) ≡ Some x) where
       own_small : IsSmall x
       own_small = let own = number_is (datum_of key) x is in own.small
 
-      pub parted_put : (v : X) (was : Option X) → (IsSome was → keys n ≡ keys m) → PutsEntry int_eq m n x v was → IsParted n o
-      parted_put v was stay h = parted_numbers (All-put IsSmall int_eq m.entries n.entries x v was own_small old.small stay h)
+      pub parted_put : (v : X) (was : Option X) → (IsSome was → keys n ≡ keys m) → PutsEntry nat_eq m n x v was → IsParted n o
+      parted_put v was stay h = parted_numbers (All-put IsSmall nat_eq m.entries n.entries x v was own_small old.small stay h)
 
-      pub parted_removed : IsPermutation (remove_entry (int_eq x) m.entries) n.entries → IsParted n o
-      parted_removed h = parted_numbers (All-moved IsSmall (remove_entry (int_eq x) m.entries) n.entries h (All-removed IsSmall (int_eq x) m.entries old.small))
+      pub parted_removed : IsPermutation (remove_entry (nat_eq x) m.entries) n.entries → IsParted n o
+      parted_removed h = parted_numbers (All-moved IsSmall (remove_entry (nat_eq x) m.entries) n.entries h (All-removed IsSmall (nat_eq x) m.entries old.small))
 
-      pub updated : IsParted n o → (w : Option X) → ((q : ℤ) → get int_eq n q ≡ cond (int_eq x q) w (get int_eq m q)) → (k : Value) → get equal (whole n o) k ≡ cond (equal key k) w (get equal (whole m o) k)
+      pub updated : IsParted n o → (w : Option X) → ((q : ℕ) → get nat_eq n q ≡ cond (nat_eq x q) w (get nat_eq m q)) → (k : Value) → get equal (whole n o) k ≡ cond (equal key k) w (get equal (whole m o) k)
       updated new w h k = step (small_in (datum_of k)) refl
         where
-          step : (a : Option ℤ) → small_in (datum_of k) ≡ a → get equal (whole n o) k ≡ cond (equal key k) w (get equal (whole m o) k)
+          step : (a : Option ℕ) → small_in (datum_of k) ≡ a → get equal (whole n o) k ≡ cond (equal key k) w (get equal (whole m o) k)
           step (Some q) e = rw (finds_number n o new k q e, finds_number m o old k q e, numbers_equal key k x q is e) (h q)
           step None e = rw (finds_other n o new k e, finds_other m o old k e, apart key k x is e) refl
 
-      pub puts : (v : X) (was : Option X) → PutsEntry int_eq m n x v was → PutsEntry equal (whole m o) (whole n o) (kept_key key) v was
+      pub puts : (v : X) (was : Option X) → PutsEntry nat_eq m n x v was → PutsEntry equal (whole m o) (whole n o) (kept_key key) v was
       puts v was h = subst (λ k. PutsEntry equal (whole m o) (whole n o) k v was) (sym (ap (λ a. key_or a key) is)) (step was h)
         where
-          step : (was : Option X) → PutsEntry int_eq m n x v was → PutsEntry equal (whole m o) (whole n o) (Int x) v was
+          step : (was : Option X) → PutsEntry nat_eq m n x v was → PutsEntry equal (whole m o) (whole n o) (Int (pos x)) v was
           step None h = both_permuted ((x, v) ∷ m.entries) n.entries o.entries o.entries h (IsPermutation-refl o.entries)
-          step (Some w) h = ap (λ t. both t o.entries) h ∙ sym (set_number (Int x) x (number_small x own_small) o.entries old.apart m.entries v)
+          step (Some w) h = ap (λ t. both t o.entries) h ∙ sym (set_number (Int (pos x)) x (number_small x own_small) o.entries old.apart m.entries v)
 
-      pub removes : IsPermutation (remove_entry (int_eq x) m.entries) n.entries → IsPermutation (remove_entry (equal key) (both m.entries o.entries)) (both n.entries o.entries)
-      removes h = rw (remove_number key x is o.entries old.apart m.entries) (both_permuted (remove_entry (int_eq x) m.entries) n.entries o.entries o.entries h (IsPermutation-refl o.entries))
+      pub removes : IsPermutation (remove_entry (nat_eq x) m.entries) n.entries → IsPermutation (remove_entry (equal key) (both m.entries o.entries)) (both n.entries o.entries)
+      removes h = rw (remove_number key x is o.entries old.apart m.entries) (both_permuted (remove_entry (nat_eq x) m.entries) n.entries o.entries o.entries h (IsPermutation-refl o.entries))
 
-  pub writes_number : (m n : HashMap ℤ X S) (o : HashMap Value X T) → IsParted m o → (key : Value) (x : ℤ) → small_in (datum_of key) ≡ Some x → (w : X) → WritesThrough int_eq (int_eq x) m w n
+  pub writes_number : (m n : HashMap ℕ X S) (o : HashMap Value X T) → IsParted m o → (key : Value) (x : ℕ) → small_in (datum_of key) ≡ Some x → (w : X) → WritesThrough nat_eq (nat_eq x) m w n
       → Writes (whole m o) key w (whole n o)
   writes_number m n o old key x is w h = record {
     entries = ap (λ t. both t o.entries) h.0 ∙ sym (set_number key x is o.entries old.apart m.entries w);
@@ -241,7 +235,7 @@ module _ {X S T : Type 0} where
       new : IsParted n o
       new = parted_numbers m n o old h.4 (All-same IsSmall (keys n) (keys m) h.1 old.small)
 
-  module _ (m : HashMap ℤ X S) (o p : HashMap Value X T) (old : IsParted m o) (unique : IsUnique equal p) where
+  module _ (m : HashMap ℕ X S) (o p : HashMap Value X T) (old : IsParted m o) (unique : IsUnique equal p) where
     parted_others : All IsOther (keys p) → IsParted m p
     parted_others h = record { small = old.small; apart = h; numbers_unique = old.numbers_unique; others_unique = unique }
 
@@ -258,7 +252,7 @@ module _ {X S T : Type 0} where
       pub other_updated : IsParted m p → (w : Option X) → ((q : Value) → get equal p q ≡ cond (equal key q) w (get equal o q)) → (k : Value) → get equal (whole m p) k ≡ cond (equal key k) w (get equal (whole m o) k)
       other_updated new w h k = step (small_in (datum_of k)) refl
         where
-          step : (a : Option ℤ) → small_in (datum_of k) ≡ a → get equal (whole m p) k ≡ cond (equal key k) w (get equal (whole m o) k)
+          step : (a : Option ℕ) → small_in (datum_of k) ≡ a → get equal (whole m p) k ≡ cond (equal key k) w (get equal (whole m o) k)
           step (Some q) e = rw (finds_number m p new k q e, finds_number m o old k q e, apart_back k key q e is) refl
           step None e = rw (finds_other m p new k e, finds_other m o old k e) (h k)
 
@@ -272,7 +266,7 @@ module _ {X S T : Type 0} where
       pub other_removes : IsPermutation (remove_entry (equal key) o.entries) p.entries → IsPermutation (remove_entry (equal key) (both m.entries o.entries)) (both m.entries p.entries)
       other_removes h = rw (remove_other key is o.entries m.entries old.small) (both_permuted m.entries m.entries (remove_entry (equal key) o.entries) p.entries (IsPermutation-refl m.entries) h)
 
-  pub writes_other : (m : HashMap ℤ X S) (o p : HashMap Value X T) → IsParted m o → (key : Value) → small_in (datum_of key) ≡ None → (w : X) → WritesThrough equal (equal key) o w p → Writes (whole m o) key w (whole m p)
+  pub writes_other : (m : HashMap ℕ X S) (o p : HashMap Value X T) → IsParted m o → (key : Value) → small_in (datum_of key) ≡ None → (w : X) → WritesThrough equal (equal key) o w p → Writes (whole m o) key w (whole m p)
   writes_other m o p old key is w h = record {
     entries = ap (both m.entries) h.0 ∙ sym (set_other key is o.entries m.entries w old.small);
     updates = λ some k. let u = h.3 (subst IsSome (finds_other m o old key is) some) in other_updated m o p old h.4 key is new (Some w) u.0 k;
@@ -284,8 +278,8 @@ module _ {X S T : Type 0} where
       new = parted_others m o p old h.4 (All-same IsOther (keys p) (keys o) h.1 old.apart)
 
   -- the entries of each in another order
-  module _ (m n : HashMap ℤ X S) (o p : HashMap Value X T) (old : IsParted m o) (ns : IsReordered int_eq m n) (ps : IsReordered equal o p) where
-    pub parted_moved : IsUnique int_eq n → IsUnique equal p → IsParted n p
+  module _ (m n : HashMap ℕ X S) (o p : HashMap Value X T) (old : IsParted m o) (ns : IsReordered nat_eq m n) (ps : IsReordered equal o p) where
+    pub parted_moved : IsUnique nat_eq n → IsUnique equal p → IsParted n p
     parted_moved u v = record { small = All-moved IsSmall m.entries n.entries ns.0 old.small; apart = All-moved IsOther o.entries p.entries ps.0 old.apart; numbers_unique = u; others_unique = v }
 
     pub whole_moved : IsParted n p → IsReordered equal (whole m o) (whole n p)
@@ -294,10 +288,10 @@ module _ {X S T : Type 0} where
         moved : IsPermutation (both m.entries o.entries) (both n.entries p.entries)
         moved = both_permuted m.entries n.entries o.entries p.entries ns.0 ps.0
 
-        step : (k : Value) (a : Option ℤ) → small_in (datum_of k) ≡ a → get equal (whole n p) k ≡ get equal (whole m o) k
+        step : (k : Value) (a : Option ℕ) → small_in (datum_of k) ≡ a → get equal (whole n p) k ≡ get equal (whole m o) k
         step k (Some q) e = rw (finds_number n p new k q e, finds_number m o old k q e) (ns.2 q)
         step k None e = rw (finds_other n p new k e, finds_other m o old k e) (ps.2 k)
 
-pub values_both : {X : Type 0} (ns : List (ℤ × X)) (os : List (Value × X)) → values_of (both ns os) ≡ values_of ns ++ values_of os
+pub values_both : {X : Type 0} (ns : List (ℕ × X)) (os : List (Value × X)) → values_of (both ns os) ≡ values_of ns ++ values_of os
 values_both [] os = refl
 values_both (e ∷ ns) os = ap (λ t. e.1 ∷ t) (values_both ns os)

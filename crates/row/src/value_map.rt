@@ -1,4 +1,4 @@
-//! A map from values that keeps a whole number of 64 bits in as many.
+//! A map from values that keeps a whole number below 2^32 in four bytes.
 ghost use Rattle.std.specs.Prelude.{◌≡◌, ◌<◌, ◌≤◌, [], Some, None, length, IfOk, IsOk, OnOk, OnErr, if◌then◌else◌};
 ghost use Rattle.std.specs.Borrow.{sem};
 ghost use Rattle.std.specs.HashMap.{get, values, spare, IsReordered, IsUnchanged, IsUnique, PutsEntry};
@@ -15,11 +15,11 @@ use std::alloc::{AllocError, Global};
 use std::collections::{HashMap, hash_map};
 use std::marker::Model;
 
-/// A map from values. A whole number of 64 bits, however it is held, takes eight bytes as a key,
-/// half of what another key takes. It is seen as one of std's maps, which has room where there is
+/// A map from values. A whole number below 2^32, however it is held, takes four bytes as a key, a
+/// quarter of what another key takes. It is seen as one of std's maps, which has room where there is
 /// room for whichever key comes.
 pub struct ValueMap<V> {
-    numbers: HashMap<i64, V>,
+    numbers: HashMap<u32, V>,
     others: HashMap<Value, V>,
 }
 
@@ -97,7 +97,7 @@ impl<V> ValueMap<V> {
     }
 
     /// Room for one key more, whichever it is. Errors: memory only; then all keys have what they had.
-    /// Cost: that of `room::reserve_one` for the numbers of 64 bits and for the other keys, so that a
+    /// Cost: that of `room::reserve_one` for the numbers below 2^32 and for the other keys, so that a
     /// map of one kind has room for a few keys of the other.
     pub fn reserve_one(&mut self) -> Result<(), AllocError>
         ensures entries { IsReordered equal self.old self.new }
@@ -146,14 +146,14 @@ impl<V> ValueMap<V> {
     }
 }
 
-/// The number that the value is, where it is one of 64 bits.
+/// The number that the value is, where it is a whole one below 2^32.
 #[inline]
-fn small_of(value: &Value) -> Option<i64>
+fn small_of(value: &Value) -> Option<u32>
     ensures { result ≡ small_in (datum_of value.now) }
 {
     match value {
-        Value::Int(number) => Some(*number),
-        Value::Long(number) => i64::try_from(**number).ok(),
+        Value::Int(number) => u32::try_from(*number).ok(),
+        Value::Long(number) => u32::try_from(**number).ok(),
         Value::Short(_) | Value::Text(_) => None,
     }
 }
@@ -161,7 +161,7 @@ fn small_of(value: &Value) -> Option<i64>
 /// What all keys of a map have, seen as the list of those that are left.
 #[derive(Drop)]
 pub struct Values<'a, V> {
-    numbers: hash_map::Values<'a, i64, V>,
+    numbers: hash_map::Values<'a, u32, V>,
     others: hash_map::Values<'a, Value, V>,
 }
 

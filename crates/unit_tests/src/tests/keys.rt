@@ -6,11 +6,18 @@ use row::value_map::ValueMap;
 use std::alloc::{AllocError, Global};
 use std::test::Fail;
 
-/// Keys of all kinds, no two the same, and what each is given.
-const KEYS: [(Cell, u64); 9] = [
+/// Keys of all kinds, no two the same, and what each is given. Some numbers differ by 2^32, which a
+/// map must keep apart.
+const KEYS: [(Cell, u64); 15] = [
     (Int(0), 10),
     (Int(7), 11),
     (Int(-7), 12),
+    (Int(4294967295), 19),
+    (Int(4294967296), 20),
+    (Int(4294967303), 21),
+    (Int(-4294967289), 22),
+    (Int(-4294967296), 23),
+    (Int(18446744073709551623), 24),
     (Int(9223372036854775807), 13),
     (Int(-9223372036854775808), 14),
     (Int(9223372036854775808), 15),
@@ -38,12 +45,17 @@ fn has_from(alloc: Global, map: &ValueMap<u64>, first: usize) -> Result<bool, Al
     Ok(all && map.values().count() == KEYS.len().saturating_sub(first))
 }
 
-// Puts each key as a long one, of which none was there.
-fn put_all(alloc: Global, map: &mut ValueMap<u64>) -> Result<bool, AllocError> {
+// Puts each key, a number as a long one or not, of which none was there.
+fn put_all(alloc: Global, map: &mut ValueMap<u64>, is_long: bool) -> Result<bool, AllocError> {
     let mut all = true;
     for (cell, number) in KEYS {
+        let key = if is_long {
+            long(alloc, cell)?
+        } else {
+            value(alloc, cell)?
+        };
         map.reserve_one()?;
-        all = all && map.insert(long(alloc, cell)?, number)?.is_none();
+        all = all && map.insert(key, number)?.is_none();
     }
     Ok(all)
 }
@@ -92,11 +104,13 @@ fn are_taken(alloc: Global, map: &mut ValueMap<u64>) -> Result<bool, AllocError>
 #[test]
 fn a_key_is_found_however_it_is_held(rt: HostRuntime) -> Result<(), Fail> {
     let mut map = ValueMap::new(rt.alloc());
-    assert!(rt; put_all(rt.alloc(), &mut map)?);
-    assert!(rt; has_from(rt.alloc(), &map, 0)?);
-    assert!(rt; put_others(rt.alloc(), &mut map)?);
-    set_back(rt.alloc(), &mut map)?;
-    assert!(rt; has_from(rt.alloc(), &map, 0)?);
-    assert!(rt; are_taken(rt.alloc(), &mut map)?);
+    for is_long in [true, false] {
+        assert!(rt; put_all(rt.alloc(), &mut map, is_long)?);
+        assert!(rt; has_from(rt.alloc(), &map, 0)?);
+        assert!(rt; put_others(rt.alloc(), &mut map)?);
+        set_back(rt.alloc(), &mut map)?;
+        assert!(rt; has_from(rt.alloc(), &map, 0)?);
+        assert!(rt; are_taken(rt.alloc(), &mut map)?);
+    }
     Ok(())
 }

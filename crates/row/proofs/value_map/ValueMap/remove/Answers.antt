@@ -1,12 +1,12 @@
 use Rattle.std.proofs.Common.{None, sym, ◌∙◌}
-use Rattle.row.proofs.ValueMaps.{finds_number, finds_other, number_read, parted_removed, other_removed, updated, other_updated, removes, other_removes, whole_unique}
+use Rattle.row.proofs.ValueMaps.{finds_number, finds_other, parted_removed, other_removed, updated, other_updated, removes, other_removes, whole_unique}
 use Rattle.row.proofs.value_map.ValueMap.remove.Goals as goal
 
 pub invariant_of-self : goal.invariant_of-self
 invariant_of-self g c =
     let m = c.self.inside in
     let is = sym c.small_of.ensures ∙ c.in-Some.is in
-    parted_removed m.numbers c.remove.new.self m.others c.self.invariant c.remove.ensures.unique c.args.key.now c.in-Some.number is (rw (number_read c.args.key.now c.in-Some.number is) at c.remove.ensures.entries)
+    parted_removed m.numbers c.remove.new.self m.others c.self.invariant c.remove.ensures.unique c.args.key.now c.in-Some.number is c.remove.ensures.entries
 
 pub invariant_of-self-in-None : goal.invariant_of-self-in-None
 invariant_of-self-in-None g c =
@@ -17,20 +17,20 @@ pub returns-in-Some-clause-value : goal.returns-in-Some-clause-value
 returns-in-Some-clause-value g c =
     let m = c.self.inside in
     let is = sym c.small_of.ensures ∙ c.in-Some.is in
-    rw (← c.self.view_is) ((rw (number_read c.args.key.now c.in-Some.number is) at c.remove.ensures.value) ∙ sym (finds_number m.numbers m.others c.self.invariant c.args.key.now c.in-Some.number is))
+    rw (← c.self.view_is) (c.remove.ensures.value ∙ sym (finds_number m.numbers m.others c.self.invariant c.args.key.now c.in-Some.number is))
 
 pub returns-in-Some-clause-updates : goal.returns-in-Some-clause-updates
 returns-in-Some-clause-updates g c =
     let m = c.self.inside in
     let is = sym c.small_of.ensures ∙ c.in-Some.is in
-    let u = rw (number_read c.args.key.now c.in-Some.number is) at c.remove.ensures.updates in
+    let u = c.remove.ensures.updates in
     rw (← c.self.view_is) (updated m.numbers c.remove.new.self m.others c.self.invariant c.remove.ensures.unique c.args.key.now c.in-Some.number is (invariant_of-self g c) None u.0)
 
 pub returns-in-Some-clause-entries : goal.returns-in-Some-clause-entries
 returns-in-Some-clause-entries g c =
     let m = c.self.inside in
     let is = sym c.small_of.ensures ∙ c.in-Some.is in
-    rw (← c.self.view_is) (removes m.numbers c.remove.new.self m.others c.self.invariant c.remove.ensures.unique c.args.key.now c.in-Some.number is (rw (number_read c.args.key.now c.in-Some.number is) at c.remove.ensures.entries))
+    rw (← c.self.view_is) (removes m.numbers c.remove.new.self m.others c.self.invariant c.remove.ensures.unique c.args.key.now c.in-Some.number is c.remove.ensures.entries)
 
 pub returns-in-Some-clause-unique : goal.returns-in-Some-clause-unique
 returns-in-Some-clause-unique g c = whole_unique c.remove.new.self c.self.inside.others (invariant_of-self g c)
