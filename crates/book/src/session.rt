@@ -11,7 +11,7 @@ use crate::cut::{Cut, Cuts};
 use crate::law::{Add, Law, LogPage, Naming};
 use crate::part::Part;
 use crate::step::{learn, try_add};
-use key_rows::shared::SharedRows;
+use key_rows::answer_rows::AnswerRows;
 use logbook::{Plain, Seen};
 use model::floors::Floors;
 use model::lengths::Lengths;
@@ -63,7 +63,7 @@ pub struct Reading<'a> {
     view: usize,
     cut: &'a Lengths,
     key: &'a Value,
-    rows: &'a SharedRows,
+    rows: &'a AnswerRows,
 }
 
 impl<'a> Plain<Reading<'a>, LogPage, u64> for Add {
@@ -187,7 +187,7 @@ impl<J: Naming> SessionWord<J> {
         view: usize,
         shard: usize,
         key: &Value,
-        rows: &SharedRows,
+        rows: &AnswerRows,
         cut: &Cut<J>,
         room: Option<Lengths>,
     ) -> Result<(), Moved>

@@ -1,3 +1,3 @@
-pub mod Placing
-pub mod PartsOrder
 pub mod Pieced
+pub mod Few
+pub mod InPlaceOf

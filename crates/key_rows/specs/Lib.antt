@@ -1,5 +1,5 @@
-pub mod Placed
 pub mod Pieces
 pub mod Changed
 pub mod Shared
 pub mod Kept
+pub mod Given

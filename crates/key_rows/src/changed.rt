@@ -5,7 +5,7 @@ ghost use Rattle.key_rows.specs.Changed.{rows_kept};
 
 use crate::list::PlacedRows;
 use crate::pieces::PiecedRows;
-use crate::placed::PlacedRow;
+use placed_rows::placed::PlacedRow;
 use row::record::{Record, Sign};
 use std::alloc::{AllocError, Global};
 use std::marker::Model;

@@ -4,8 +4,8 @@ ghost use Rattle.std.specs.Ordering.{is_gt};
 ghost use Rattle.std.specs.List.Sorted.{IsPartitionPoint};
 ghost use Rattle.row.specs.{Bags.IsAscending, Bags.inserted, Bags.removed, Bags.times, Cells.row_cmp};
 
-use crate::placed::PlacedRow;
 use crate::rows::Rows;
+use placed_rows::placed::PlacedRow;
 use row::row::Row;
 use std::alloc::{AllocError, Global};
 use std::marker::Model;
@@ -47,7 +47,7 @@ impl PlacedRows {
     }
 
     /// A copy of these rows, which are in order, with room for so many. Errors: memory only. Cost:
-    /// that of `PlacedRow::try_clone` for each.
+    /// that of `RowView::to_placed` for each.
     pub(crate) fn copied(
         alloc: Global,
         rows: Rows<'_>,
@@ -58,7 +58,7 @@ impl PlacedRows {
     {
         let mut copies = Vec::with_capacity(alloc, room)?;
         for row in rows {
-            copies.push(row.try_clone(alloc)?)?;
+            copies.push(row.to_placed(alloc)?)?;
         }
         Ok(PlacedRows { rows: copies })
     }

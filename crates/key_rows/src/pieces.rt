@@ -5,8 +5,8 @@ ghost use Rattle.row.specs.{Bags.IsAscending, Bags.inserted, Bags.joined, Bags.r
 ghost use Rattle.key_rows.specs.Pieces.{has_reached, IsPieceOf};
 
 use crate::list::PlacedRows;
-use crate::placed::PlacedRow;
 use crate::rows::Rows;
+use placed_rows::placed::PlacedRow;
 use std::alloc::{AllocError, Global};
 use std::marker::Model;
 use std::slice::Iter;

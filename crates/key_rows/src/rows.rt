@@ -1,11 +1,14 @@
 //! The rows of a key, one after another.
-ghost use Rattle.std.specs.Prelude.{◌≡◌, length};
+ghost use Rattle.std.specs.Prelude.{◌≡◌, length, map};
 ghost use Rattle.std.specs.Iterator.{at_most};
-ghost use Rattle.std.specs.Map.Iter.{TakesFirst, deref};
-ghost use Rattle.row.specs.Bags.{joined};
+ghost use Rattle.std.specs.Map.Iter.{TakesFirst};
+ghost use Rattle.row.specs.Bags.{Each, joined};
+ghost use Rattle.placed_rows.specs.Here.{cells_at, IsWhole};
 
 use crate::pieces::Piece;
-use crate::placed::PlacedRow;
+use placed_rows::in_place::InPlace;
+use placed_rows::placed::PlacedRow;
+use placed_rows::row_view::RowView;
 use std::marker::Model;
 use std::slice::Iter;
 
@@ -13,28 +16,50 @@ use std::slice::Iter;
 /// time.
 #[derive(Drop)]
 pub struct Rows<'a> {
+    few: Iter<'a, InPlace>,
     rows: Iter<'a, PlacedRow>,
     pieces: Iter<'a, Piece>,
 }
 
 impl<'a> Model for Rows<'a> {
-    ghost use Rattle.std.specs.Prelude.{List, ◌++◌};
+    ghost use Rattle.std.specs.Prelude.{List, ◌++◌, map};
     ghost use Rattle.std.specs.Slice.Iter.{iter_rest};
-    ghost use Rattle.row.specs.{Cells.Datum, Bags.joined};
+    ghost use Rattle.row.specs.{Cells.Datum, Bags.Each, Bags.joined};
+    ghost use Rattle.placed_rows.specs.Here.{cells_at, IsWhole};
 
     ghost Value = { List (List Datum) };
 
-    ghost view = { λ r. iter_rest r.rows ++ joined (iter_rest r.pieces) };
+    ghost view = { λ r. map cells_at (iter_rest r.few)
+        ++ (iter_rest r.rows ++ joined (iter_rest r.pieces)) };
+
+    ghost invariant = { λ r. Each IsWhole (iter_rest r.few) };
 }
 
 impl<'a> Rows<'a> {
+    /// These rows, whose values lie in them.
+    #[inline]
+    pub(crate) fn few(few: &'a [InPlace]) -> Rows<'a>
+        requires { Each IsWhole few.now }
+        ensures { result ≡ map cells_at few.now }
+    {
+        let rows: &[PlacedRow] = &[];
+        let pieces: &[Piece] = &[];
+        Rows {
+            few: few.iter(),
+            rows: rows.iter(),
+            pieces: pieces.iter(),
+        }
+    }
+
     /// These rows.
     #[inline]
     pub(crate) fn of(rows: &'a [PlacedRow]) -> Rows<'a>
         ensures { result ≡ rows.now }
     {
+        let few: &[InPlace] = &[];
         let pieces: &[Piece] = &[];
         Rows {
+            few: few.iter(),
             rows: rows.iter(),
             pieces: pieces.iter(),
         }
@@ -45,8 +70,10 @@ impl<'a> Rows<'a> {
     pub(crate) fn of_pieces(pieces: &'a [Piece]) -> Rows<'a>
         ensures { result ≡ joined pieces.now }
     {
+        let few: &[InPlace] = &[];
         let rows: &[PlacedRow] = &[];
         Rows {
+            few: few.iter(),
             rows: rows.iter(),
             pieces: pieces.iter(),
         }
@@ -54,18 +81,24 @@ impl<'a> Rows<'a> {
 }
 
 impl<'a> Iterator for Rows<'a> {
-    type Item = &'a PlacedRow;
+    type Item = RowView<'a>;
 
-    ghost next_gives = { TakesFirst deref };
+    ghost next_gives = { TakesFirst (λ r. r) };
 
     ghost remaining = { λ s. at_most (length s) };
 
     #[inline]
-    fn next(&mut self) -> Option<&'a PlacedRow> {
+    fn next(&mut self) -> Option<RowView<'a>> {
+        if let Some(row) = self.few.next() {
+            return Some(RowView::here(row));
+        }
         if let Some(row) = self.rows.next() {
-            return Some(row);
+            return Some(row.view());
         }
         self.rows = self.pieces.next()?.iter();
-        self.rows.next()
+        match self.rows.next() {
+            Some(row) => Some(row.view()),
+            None => None,
+        }
     }
 }

@@ -1,13 +1,16 @@
 //! The rows of a key that copies share.
-ghost use Rattle.std.specs.Prelude.{◌≡◌, ◌==◌, IfOk, IfSome, length};
-ghost use Rattle.row.specs.{BagChanges.with_records, Bags.IsAscending, Cells.row_cmp};
-ghost use Rattle.key_rows.specs.Shared.{rows_at, rows_in};
+ghost use Rattle.std.specs.Prelude.{◌≡◌, ◌==◌, ◌<◌, IfOk, IfSome, Some, length, map, slice_get, slice_set};
+ghost use Rattle.row.specs.{BagChanges.with_records, Bags.IsAscending, Bags.inserted, Bags.removed, Cells.row_cmp};
+ghost use Rattle.placed_rows.specs.Here.{cells_at, IsWhole};
+ghost use Rattle.key_rows.specs.Shared.{AreFew, IsAt, IsHeld, rows_at, rows_in};
 
 use crate::changed::{ChangedRows, Kept};
 use crate::list::PlacedRows;
 use crate::pieces::PiecedRows;
-use crate::placed::PlacedRow;
+use crate::replaced::{pair, replacing};
 use crate::rows::Rows;
+use placed_rows::in_place::InPlace;
+use placed_rows::placed::PlacedRow;
 use row::bag::Bag;
 use row::record::{Record, Sign};
 use row::row::Row;
@@ -18,9 +21,9 @@ use std::sync::Arc;
 /// So many rows lie in one place at most.
 const MOST: usize = 16;
 
-/// A bag of rows that its copies share, seen as the list of its rows in order. Up to four lie in one
-/// piece of memory beside the count of the copies, and up to 16 in one place. More lie in pieces of at
-/// most 32, which a changed copy shares but for those in which a row came or went.
+/// A bag of rows that its copies share, seen as the list of its rows in order. Up to four whose values
+/// lie in them are in one piece of memory beside the count of the copies, and else up to 16 in one place.
+/// More lie in pieces of at most 32, which a changed copy shares but for those in which a row came or went.
 pub struct SharedRows {
     held: Held,
 }
@@ -29,17 +32,18 @@ pub struct SharedRows {
 #[derive(Drop)]
 enum Held {
     None,
-    One(Arc<[PlacedRow; 1]>),
-    Two(Arc<[PlacedRow; 2]>),
-    Three(Arc<[PlacedRow; 3]>),
-    Four(Arc<[PlacedRow; 4]>),
+    One(Arc<[InPlace; 1]>),
+    Two(Arc<[InPlace; 2]>),
+    Three(Arc<[InPlace; 3]>),
+    Four(Arc<[InPlace; 4]>),
     Many(Arc<Vec<PlacedRow>>),
     Pieces(Arc<PiecedRows>),
 }
 
 /// The rows where they lie.
 #[derive(Clone, Copy)]
-enum Place<'a> {
+pub(crate) enum Place<'a> {
+    Few(&'a [InPlace]),
     List(&'a [PlacedRow]),
     Pieces(&'a PiecedRows),
 }
@@ -54,13 +58,13 @@ impl Drop for SharedRows {
 impl Model for SharedRows {
     ghost use Rattle.std.specs.Prelude.{List};
     ghost use Rattle.row.specs.{Cells.Datum, Cells.row_cmp, Bags.IsAscending};
-    ghost use Rattle.key_rows.specs.Shared.{rows_in};
+    ghost use Rattle.key_rows.specs.Shared.{IsHeld, rows_in};
 
     ghost Value = { List (List Datum) };
 
     ghost view = { λ r. rows_in r.held };
 
-    ghost invariant = { λ r. IsAscending row_cmp (rows_in r.held) };
+    ghost invariant = { λ r. IsHeld r.held × IsAscending row_cmp (rows_in r.held) };
 }
 
 impl SharedRows {
@@ -73,16 +77,17 @@ impl SharedRows {
 
     // The rows where they lie. Constant time.
     #[inline]
-    fn place(&self) -> Place<'_>
+    pub(crate) fn place(&self) -> Place<'_>
         ensures rows { rows_at result ≡ self.now }
+        ensures at { IsAt result }
         ensures in_order { IsAscending row_cmp self.now }
     {
         match &self.held {
-            Held::None => Place::List(&[]),
-            Held::One(rows) => Place::List(rows.as_slice()),
-            Held::Two(rows) => Place::List(rows.as_slice()),
-            Held::Three(rows) => Place::List(rows.as_slice()),
-            Held::Four(rows) => Place::List(rows.as_slice()),
+            Held::None => Place::Few(&[]),
+            Held::One(rows) => Place::Few(rows.as_slice()),
+            Held::Two(rows) => Place::Few(rows.as_slice()),
+            Held::Three(rows) => Place::Few(rows.as_slice()),
+            Held::Four(rows) => Place::Few(rows.as_slice()),
             Held::Many(rows) => Place::List(rows.as_slice()),
             Held::Pieces(rows) => Place::Pieces(rows),
         }
@@ -95,6 +100,7 @@ impl SharedRows {
         ensures in_order { IsAscending row_cmp self.now }
     {
         match self.place() {
+            Place::Few(rows) => Rows::few(rows),
             Place::List(rows) => Rows::of(rows),
             Place::Pieces(rows) => rows.iter(),
         }
@@ -105,6 +111,7 @@ impl SharedRows {
         ensures { result ≡ length self.now }
     {
         match self.place() {
+            Place::Few(rows) => rows.len(),
             Place::List(rows) => rows.len(),
             Place::Pieces(rows) => rows.len(),
         }
@@ -132,32 +139,56 @@ impl SharedRows {
 
     /// The rows with the records applied as one change, as `Bag::apply` does; those that are shared
     /// stay. Errors: memory only. Cost, up to 16 rows: a copy of each row, and for each record a search
-    /// by halves and a move of the rows behind its place. Else a step on the count of each piece of
-    /// rows, and for each record a search by halves, a copy of the rows of one piece and a move of the
-    /// pieces behind it.
+    /// by halves and a move of the rows behind its place; where one goes and one comes in its place, of a
+    /// few, a look at each row, up to two comparisons and a copy of the rows. Else a step on the count of
+    /// each piece of rows, and for each record a search by halves, a copy of the rows of one piece and a
+    /// move of the pieces behind it.
     pub fn with_records(&self, alloc: Global, records: &[Record]) -> Result<SharedRows, AllocError>
         ensures { IfOk result (λ r. r ≡ with_records self.now records.now) }
     {
+        if let Some((gone, come)) = pair(records)
+            && let Some(rows) = self.with_other(alloc, gone, come)?
+        {
+            return Ok(rows);
+        }
         let mut rows = self.copied(alloc, gains(records))?;
         rows.apply(alloc, records)?;
         shared(alloc, rows)
+    }
+
+    // The rows with another in the place of one that goes, where they are few and stay in order so.
+    fn with_other(
+        &self,
+        alloc: Global,
+        gone: &Row,
+        come: &Row,
+    ) -> Result<Option<SharedRows>, AllocError>
+        ensures { IfOk result (λ o. IfSome o (λ r.
+            r ≡ removed row_cmp gone.now (inserted row_cmp come.now self.now))) }
+    {
+        let Place::Few(few) = self.place() else {
+            return Ok(None);
+        };
+        let Some((at, row)) = replacing(few, gone, come) else {
+            return Ok(None);
+        };
+        let held = with_at(alloc, few, at, row)?;
+        Ok(Some(SharedRows { held }))
     }
 
     // A copy of the rows, with room for so many more where they lie in one place.
     fn copied(&self, alloc: Global, more: usize) -> Result<ChangedRows, AllocError>
         ensures { IfOk result (λ r. r ≡ self.now) }
     {
-        match self.place() {
-            Place::List(rows) => {
-                let room = rows.len().saturating_add(more);
-                Ok(ChangedRows::list(PlacedRows::copied(alloc, Rows::of(rows), room)?))
-            }
-            Place::Pieces(rows) => Ok(ChangedRows::pieces(rows.copied(alloc)?)),
+        if let Place::Pieces(rows) = self.place() {
+            return Ok(ChangedRows::pieces(rows.copied(alloc)?));
         }
+        let room = self.len().saturating_add(more);
+        Ok(ChangedRows::list(PlacedRows::copied(alloc, self.iter(), room)?))
     }
 
     /// The same rows as ones whose values their copies share. Errors: memory only. Cost: that of
-    /// `PlacedRow::to_row` for each.
+    /// `RowView::to_row` for each.
     pub fn to_rows(&self, alloc: Global) -> Result<Vec<Row>, AllocError>
         ensures { IfOk result (λ v. v.items ≡ self.now) }
     {
@@ -181,7 +212,8 @@ impl Held {
     // The same rows in the same memory; `None` where it has as many copies as can be counted.
     #[inline]
     fn again(&self) -> Option<Held>
-        ensures { IfSome result (λ h. rows_in h ≡ rows_in self.now) }
+        ensures rows { IfSome result (λ h. rows_in h ≡ rows_in self.now) }
+        ensures held { IfSome result (λ h. IsHeld self.now → IsHeld h) }
     {
         match self {
             Held::None => Some(Held::None),
@@ -248,28 +280,134 @@ fn in_pieces(alloc: Global, rows: PiecedRows) -> Result<SharedRows, AllocError>
     Ok(SharedRows { held })
 }
 
-/// The rows, where nobody shares them yet.
+/// The rows, where nobody shares them yet. Errors: memory only.
 fn unshared(alloc: Global, rows: Vec<PlacedRow>) -> Result<Held, AllocError>
-    ensures { IfOk result (λ h. rows_in h ≡ rows.items) }
+    ensures rows { IfOk result (λ h. rows_in h ≡ rows.items) }
+    ensures held { IfOk result IsHeld }
 {
-    let rows = match <[PlacedRow; 1]>::try_from(rows) {
-        Ok(rows) => return Ok(Held::One(Arc::new(alloc, rows)?)),
-        Err(rows) => rows,
-    };
-    let rows = match <[PlacedRow; 2]>::try_from(rows) {
-        Ok(rows) => return Ok(Held::Two(Arc::new(alloc, rows)?)),
-        Err(rows) => rows,
-    };
-    let rows = match <[PlacedRow; 3]>::try_from(rows) {
-        Ok(rows) => return Ok(Held::Three(Arc::new(alloc, rows)?)),
-        Err(rows) => rows,
-    };
-    let rows = match <[PlacedRow; 4]>::try_from(rows) {
-        Ok(rows) => return Ok(Held::Four(Arc::new(alloc, rows)?)),
-        Err(rows) => rows,
-    };
-    if rows.is_empty() {
-        return Ok(Held::None);
+    if let Some(held) = few(alloc, &rows)? {
+        return Ok(held);
     }
     Ok(Held::Many(Arc::new(alloc, rows)?))
+}
+
+/// Up to four rows whose values lie in them, where nobody shares them yet, and nothing of others. Errors:
+/// memory only.
+fn few(alloc: Global, rows: &[PlacedRow]) -> Result<Option<Held>, AllocError>
+    ensures rows { IfOk result (λ few. IfSome few (λ h. rows_in h ≡ rows.now)) }
+    ensures held { IfOk result (λ few. IfSome few IsHeld) }
+{
+    match rows.len() {
+        0 => Ok(Some(Held::None)),
+        1 => one(alloc, rows),
+        2 => two(alloc, rows),
+        3 => three(alloc, rows),
+        4 => four(alloc, rows),
+        _ => Ok(None),
+    }
+}
+
+/// The row in the place, where its values lie in it.
+fn in_place(rows: &[PlacedRow], at: usize) -> Option<InPlace>
+    requires { at < length rows.now }
+    ensures row { IfSome result (λ r. slice_get rows.now at ≡ Some (cells_at r)) }
+    ensures whole { IfSome result IsWhole }
+{
+    rows[at].in_place()
+}
+
+/// The row, where its values lie in it. Errors: memory only.
+fn one(alloc: Global, rows: &[PlacedRow]) -> Result<Option<Held>, AllocError>
+    requires { length rows.now ≡ 1 }
+    ensures rows { IfOk result (λ few. IfSome few (λ h. rows_in h ≡ rows.now)) }
+    ensures held { IfOk result (λ few. IfSome few IsHeld) }
+{
+    let Some(first) = in_place(rows, 0) else {
+        return Ok(None);
+    };
+    Ok(Some(of_few(alloc, &[first])?))
+}
+
+/// Both rows, where their values lie in them. Errors: memory only.
+fn two(alloc: Global, rows: &[PlacedRow]) -> Result<Option<Held>, AllocError>
+    requires { length rows.now ≡ 2 }
+    ensures rows { IfOk result (λ few. IfSome few (λ h. rows_in h ≡ rows.now)) }
+    ensures held { IfOk result (λ few. IfSome few IsHeld) }
+{
+    let Some(first) = in_place(rows, 0) else {
+        return Ok(None);
+    };
+    let Some(second) = in_place(rows, 1) else {
+        return Ok(None);
+    };
+    Ok(Some(of_few(alloc, &[first, second])?))
+}
+
+/// All three rows, where their values lie in them. Errors: memory only.
+fn three(alloc: Global, rows: &[PlacedRow]) -> Result<Option<Held>, AllocError>
+    requires { length rows.now ≡ 3 }
+    ensures rows { IfOk result (λ few. IfSome few (λ h. rows_in h ≡ rows.now)) }
+    ensures held { IfOk result (λ few. IfSome few IsHeld) }
+{
+    let Some(first) = in_place(rows, 0) else {
+        return Ok(None);
+    };
+    let Some(second) = in_place(rows, 1) else {
+        return Ok(None);
+    };
+    let Some(third) = in_place(rows, 2) else {
+        return Ok(None);
+    };
+    Ok(Some(of_few(alloc, &[first, second, third])?))
+}
+
+/// All four rows, where their values lie in them. Errors: memory only.
+fn four(alloc: Global, rows: &[PlacedRow]) -> Result<Option<Held>, AllocError>
+    requires { length rows.now ≡ 4 }
+    ensures rows { IfOk result (λ few. IfSome few (λ h. rows_in h ≡ rows.now)) }
+    ensures held { IfOk result (λ few. IfSome few IsHeld) }
+{
+    let Some(first) = in_place(rows, 0) else {
+        return Ok(None);
+    };
+    let Some(second) = in_place(rows, 1) else {
+        return Ok(None);
+    };
+    let Some(third) = in_place(rows, 2) else {
+        return Ok(None);
+    };
+    let Some(fourth) = in_place(rows, 3) else {
+        return Ok(None);
+    };
+    Ok(Some(of_few(alloc, &[first, second, third, fourth])?))
+}
+
+/// Up to four rows whose values lie in them, where nobody shares them yet. Errors: memory only.
+fn of_few(alloc: Global, rows: &[InPlace]) -> Result<Held, AllocError>
+    requires { AreFew rows.now }
+    ensures rows { IfOk result (λ h. rows_in h ≡ map cells_at rows.now) }
+    ensures held { IfOk result IsHeld }
+{
+    Ok(match rows.len() {
+        0 => Held::None,
+        1 => Held::One(Arc::new(alloc, [rows[0]])?),
+        2 => Held::Two(Arc::new(alloc, [rows[0], rows[1]])?),
+        3 => Held::Three(Arc::new(alloc, [rows[0], rows[1], rows[2]])?),
+        _ => Held::Four(Arc::new(alloc, [rows[0], rows[1], rows[2], rows[3]])?),
+    })
+}
+
+/// The rows with another in this place, where nobody shares them yet. Errors: memory only.
+fn with_at(alloc: Global, rows: &[InPlace], at: usize, row: InPlace) -> Result<Held, AllocError>
+    requires few { AreFew rows.now }
+    requires small { at < length rows.now }
+    requires whole { IsWhole row }
+    ensures rows { IfOk result (λ h. rows_in h ≡ slice_set (map cells_at rows.now) at (cells_at row)) }
+    ensures held { IfOk result IsHeld }
+{
+    let mut few = [InPlace::blank(); 4];
+    let few = &mut few[..rows.len()];
+    few.copy_from_slice(rows);
+    few[at] = row;
+    of_few(alloc, few)
 }

@@ -1,5 +1,5 @@
 -- What one look finds, and the sessions that a call leaves so.
-use Rattle.std.proofs.Common.{◌≡◌, ◌⊎◌, ℕ, zero, suc, ◌<◌, List, [], ◌∷◌, map, length, get_or, slice_get, slice_set, position, Option, Some, None, Result, Ok, Err, IfOk, IfErr, IfSome, IfNone, OnOk, refl, ap, sym, ◌∙◌, subst, arith, inl, inr}
+use Rattle.std.proofs.Common.{◌≡◌, ◌⊎◌, ℕ, zero, suc, ◌<◌, Bool, IsFalse, IsTrue as IsYes, List, [], ◌∷◌, map, length, get_or, slice_get, slice_set, position, Option, Some, None, Result, Ok, Err, IfOk, IfErr, IfSome, IfNone, OnOk, refl, ap, sym, ◌∙◌, subst, arith, inl, inr}
 use Rattle.std.proofs.lemmas.List.{length-map}
 use Rattle.row.specs.Cells.{Cells, Datum, datum_of}
 use Rattle.row.specs.declared.refused.Refused.{Refused}
@@ -78,15 +78,13 @@ module _ (p : Layout) (shown : List Snapshot) (v : ℕ) (key : Value) (y : Snaps
       let e : view_shard p y.view (datum_of key) ≡ y.shard = ap (λ m. view_shard p m (datum_of key)) ev ∙ sym ej in
       subst (λ (o : Option (List Cells)). IfSome o (λ rs. rs ≡ answer p y.cut y.view (datum_of key))) at (t.rows key e) ∙ ap (λ m. answer p y.cut m (datum_of key)) ev
 
-  pub finds : (r : Result (Option (List Cells)) Refused) (cut : Option CutView) → IsSight shown v (view_shard p v (datum_of key)) y → IfOk r (λ _. IsTrue p y)
-      → IfOk r (λ found. IfSome found (λ rows. IsHit p y (datum_of key) rows cut)) → IfOk r (λ found. IfSome found (λ rows. FindsOver p shown v (datum_of key) rows cut))
-  finds (Ok (Some rows)) cut is t h = record { over = h.over; there = h.there; finds = record { sight = y; is = is; rows = h.rows; answers = truth_at rows t is.of h.rows; cut = h.lengths; fronts = h.fronts } }
-  finds (Ok None) cut is t h = tt
-  finds (Err e) cut is t h = tt
+  pub finds : (r : Result Bool Refused) (rows : List Cells) (cut : Option CutView) → IsSight shown v (view_shard p v (datum_of key)) y → IfOk r (λ _. IsTrue p y)
+      → IfOk r (λ hit. IsYes hit → IsHit p y (datum_of key) rows cut) → IfOk r (λ hit. IsYes hit → FindsOver p shown v (datum_of key) rows cut)
+  finds (Ok hit) rows cut is t h = λ yes. let f = h yes in record { over = f.over; there = f.there; finds = record { sight = y; is = is; rows = f.rows; answers = truth_at rows t is.of f.rows; cut = f.lengths; fronts = f.fronts } }
+  finds (Err e) rows cut is t h = tt
 
-  pub hides : (r : Result (Option (List Cells)) Refused) → IsSight shown v (view_shard p v (datum_of key)) y → IfOk r (λ found. IfNone found (shown_at y.rows (datum_of key) ≡ None)) → IfOk r (λ found. IfNone found (IsHidden p shown v (datum_of key)))
-  hides (Ok (Some rows)) is h = tt
-  hides (Ok None) is h = record { sight = y; is = is; none = h }
+  pub hides : (r : Result Bool Refused) → IsSight shown v (view_shard p v (datum_of key)) y → IfOk r (λ hit. IsFalse hit → shown_at y.rows (datum_of key) ≡ None) → IfOk r (λ hit. IsFalse hit → IsHidden p shown v (datum_of key))
+  hides (Ok hit) is h = λ no. record { sight = y; is = is; none = h no }
   hides (Err e) is h = tt
 
 -- the cut that is there is that over which the key is shown

@@ -111,3 +111,10 @@ pub record Answers (p : Layout) (sessions : ℕ) (old new : Caller) (name : List
   pub why : IfSome (asked_refusal p old name k) (λ e. (r ≡ Err e) × (new ≡ old))
   pub answer : IfOk r (λ a. Reads p old new name k a.rows a.cut)
   pub refused : IfErr r (λ e. (asked_refusal p old name k ≡ Some e) ⊎ IsUnanswered p old new e)
+
+-- the same, where the rows of an answer are these
+pub record AnswersInto (p : Layout) (sessions : ℕ) (old new : Caller) (name : List ℕ) (k : Datum) (rs : List Cells) (r : Result Lengths Refused) : Type 0 where
+  pub legal : IsLegal p sessions new.seen
+  pub why : IfSome (asked_refusal p old name k) (λ e. (r ≡ Err e) × (new ≡ old))
+  pub answer : IfOk r (λ cut. Reads p old new name k rs cut)
+  pub refused : IfErr r (λ e. (asked_refusal p old name k ≡ Some e) ⊎ IsUnanswered p old new e)

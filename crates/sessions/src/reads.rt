@@ -1,5 +1,5 @@
 //! Reads of a session.
-ghost use Rattle.std.specs.Prelude.{◌≡◌, ◌⊎◌, ◌<◌, IfOk, OnOk, IfErr, IfNone, IfSome, Some, length};
+ghost use Rattle.std.specs.Prelude.{◌≡◌, ◌⊎◌, ◌<◌, IfOk, OnOk, IfErr, IfNone, IfSome, IsFalse, IsTrue, Some, length};
 ghost use Rattle.std.specs.Prelude.{slice_get};
 ghost use Rattle.row.specs.Cells.{datum_of};
 ghost use Rattle.plan.specs.Layouts.{view_at};
@@ -13,7 +13,7 @@ use crate::turns::ReadTurns;
 use book::cut::Cut;
 use book::law::Naming;
 use calls::want::fill;
-use key_rows::shared::SharedRows;
+use key_rows::answer_rows::AnswerRows;
 use model::lengths::Lengths;
 use plan::plan::Plan;
 use routes::routes::Routes;
@@ -27,7 +27,7 @@ use std::sync::Wait;
 /// The rows of a key in order, and the cut over which they are the query's.
 #[derive(Drop)]
 pub struct Answer {
-    pub rows: SharedRows,
+    pub rows: AnswerRows,
     pub cut: Lengths,
 }
 
@@ -42,7 +42,7 @@ pub enum Found {
 }
 
 impl<J: Naming> Session<J> {
-    ghost use Rattle.sessions.specs.{Reads.Answers, Reads.HasLooked, Reads.IsMissed, Reads.IsRead, Reads.IsUnanswered, Reads.IsUnread, Reads.Misses, Reads.OnHit, Reads.OnMiss, Reads.Reads, Reads.Tries, Reads.asked_refusal, Sights.Finds, Sights.FindsOver};
+    ghost use Rattle.sessions.specs.{Reads.Answers, Reads.AnswersInto, Reads.HasLooked, Reads.IsMissed, Reads.IsRead, Reads.IsUnanswered, Reads.IsUnread, Reads.Misses, Reads.OnHit, Reads.OnMiss, Reads.Reads, Reads.Tries, Reads.asked_refusal, Sights.Finds, Sights.FindsOver};
 
     /// Looks a key of a view up in what is shown, and makes a hit an answer, as one step. It waits
     /// for nobody, and is answered after a stop too. A hit is what the look found: the query's rows
@@ -53,8 +53,8 @@ impl<J: Naming> Session<J> {
     /// or its word was found moved before, `UnknownView`, `BadKey` where the key is no cell of the
     /// key column; then `NoMemory`, or `Stolen` where its word was moved by another. A refused read
     /// leaves the floors and what was accepted, and but for `Stolen` what was seen. Cost: a look at
-    /// each view's name, one look-up, a step on the count of the key's rows, and two copies of the
-    /// cut, one of them over the floor.
+    /// each view's name, one look-up, that of `SharedRows::read_into`, and two copies of the cut, one of
+    /// them over the floor.
     pub fn try_read(&mut self, alloc: Global, view: &str, key: &Value) -> Result<Found, Refused>
         ensures { Tries J.plan J.sessions self.old self.new view.now (datum_of key.now) result }
     {
@@ -77,46 +77,51 @@ impl<J: Naming> Session<J> {
             return Err(Refused::Stolen);
         }
         let view = read_target(self.plan(), view, key)?;
-        match self.look(alloc, view, key) {
-            Ok(Some(answer)) => Ok(Found::Hit(answer)),
+        let mut rows = AnswerRows::new();
+        match self.look(alloc, view, key, &mut rows) {
+            Ok(Some(cut)) => Ok(Found::Hit(Answer { rows, cut })),
             Ok(None) => Ok(Found::Miss),
             Err(refused) => Err(refused),
         }
     }
 
-    // Looks the key up, and answers with a hit.
+    // Looks the key up, and answers with a hit: its rows in `rows`, and their cut.
     #[inline(always)]
-    fn look(&mut self, alloc: Global, view: usize, key: &Value) -> Result<Option<Answer>, Refused>
+    fn look(
+        &mut self,
+        alloc: Global,
+        view: usize,
+        key: &Value,
+        rows: &mut AnswerRows,
+    ) -> Result<Option<Lengths>, Refused>
         requires view { view < length J.plan.views }
         requires number { self.old.number < last_number }
-        ensures hit { IfOk result (λ found. IfSome found (λ a.
-            IsRead J.plan self.old self.new view (datum_of key.now) a.rows a.cut)) }
+        ensures hit { IfOk result (λ found. IfSome found (λ cut.
+            IsRead J.plan self.old self.new view (datum_of key.now) rows.new cut)) }
         ensures miss { IfOk result (λ found.
             IfNone found (IsMissed J.plan self.old self.new view (datum_of key.now))) }
         ensures refused { IfErr result (λ e. IsUnread J.plan self.old self.new e) }
     {
         let shard = key_shard(self.plan(), view, key);
         let mut cut = None;
-        let found = match self.find(alloc, view, shard, key, &mut cut) {
-            Ok(found) => found,
+        let hit = match self.find(alloc, view, shard, key, rows, &mut cut) {
+            Ok(hit) => hit,
             Err(refused) => return Err(refused),
         };
-        let Some(rows) = found else {
+        if !hit {
             return Ok(None);
-        };
+        }
         let Some(cut) = cut else {
             unreachable!();
         };
-        match self.answer(alloc, view, shard, key, &rows, &cut) {
-            Ok(()) => {
-                let cut = cut.into_lengths();
-                Ok(Some(Answer { rows, cut }))
-            }
+        match self.answer(alloc, view, shard, key, rows, &cut) {
+            Ok(()) => Ok(Some(cut.into_lengths())),
             Err(refused) => Err(refused),
         }
     }
 
-    // Looks the key up in what is shown of its view shard: its rows and, in `cut`, the cut of a hit.
+    // Looks the key up in what is shown of its view shard, and says whether it is shown: a hit puts its
+    // rows into `rows` and its cut into `cut`.
     #[inline(always)]
     fn find(
         &mut self,
@@ -124,20 +129,21 @@ impl<J: Naming> Session<J> {
         view: usize,
         shard: usize,
         key: &Value,
+        rows: &mut AnswerRows,
         cut: &mut Option<Cut<J>>,
-    ) -> Result<Option<SharedRows>, Refused>
+    ) -> Result<bool, Refused>
         requires view { view < length J.plan.views }
         requires shard { shard ≡ view_shard J.plan view (datum_of key.now) }
         requires range { shard < (view_at J.plan view).shards }
         ensures looked { HasLooked self.old self.new }
-        ensures hit { IfOk result (λ found. IfSome found (λ rows.
-            FindsOver J.plan self.new.shown view (datum_of key.now) rows cut.new)) }
-        ensures miss { IfOk result (λ found.
-            IfNone found (IsHidden J.plan self.new.shown view (datum_of key.now))) }
+        ensures hit { IfOk result (λ hit. IsTrue hit
+            → FindsOver J.plan self.new.shown view (datum_of key.now) rows.new cut.new) }
+        ensures miss { IfOk result (λ hit. IsFalse hit
+            → IsHidden J.plan self.new.shown view (datum_of key.now)) }
         ensures only { IfErr result (λ e. e ≡ Refused.NoMemory) }
     {
         let place = shard_place(&self.routes, view, shard);
-        self.sights.look(alloc, place, view, key, cut)
+        self.sights.look(alloc, place, view, key, rows, cut)
     }
 
     // Answers with what was looked at.
@@ -148,7 +154,7 @@ impl<J: Naming> Session<J> {
         view: usize,
         shard: usize,
         key: &Value,
-        rows: &SharedRows,
+        rows: &AnswerRows,
         cut: &Cut<J>,
     ) -> Result<(), Refused>
         requires view { view < length J.plan.views }
@@ -186,16 +192,44 @@ impl<J: Naming> Session<J> {
     pub fn read<R: Wait>(&mut self, rt: &R, alloc: Global, view: &str, key: &Value) -> Reading
         ensures { Answers J.plan J.sessions self.old self.new view.now (datum_of key.now) result }
     {
-        let answer = self.read_view(rt, alloc, view, key);
+        let mut rows = AnswerRows::new();
+        match self.read_into(rt, alloc, view, key, &mut rows) {
+            Ok(cut) => Ok(Answer { rows, cut }),
+            Err(refused) => Err(refused),
+        }
+    }
+
+    /// Reads as `read` does, into rows of the caller's, which can be filled again, and gives the cut over
+    /// which they are the query's. Refused as `read` is; what the rows are then is not said. Cost: that of
+    /// `read`, but that the rows are not copied on their way up to the caller.
+    pub fn read_into<R: Wait>(
+        &mut self,
+        rt: &R,
+        alloc: Global,
+        view: &str,
+        key: &Value,
+        rows: &mut AnswerRows,
+    ) -> Result<Lengths, Refused>
+        ensures { AnswersInto J.plan J.sessions self.old self.new view.now (datum_of key.now)
+            rows.new result }
+    {
+        let answer = self.read_view(rt, alloc, view, key, rows);
         self.seen.is_legal();
         answer
     }
 
-    fn read_view<R: Wait>(&mut self, rt: &R, alloc: Global, view: &str, key: &Value) -> Reading
+    fn read_view<R: Wait>(
+        &mut self,
+        rt: &R,
+        alloc: Global,
+        view: &str,
+        key: &Value,
+        rows: &mut AnswerRows,
+    ) -> Result<Lengths, Refused>
         ensures why { IfSome (asked_refusal J.plan self.old view.now (datum_of key.now))
             (λ e. (result ≡ Err e) × (self.new ≡ self.old)) }
-        ensures answer { IfOk result (λ a.
-            Reads J.plan self.old self.new view.now (datum_of key.now) a.rows a.cut) }
+        ensures answer { IfOk result (λ cut.
+            Reads J.plan self.old self.new view.now (datum_of key.now) rows.new cut) }
         ensures refused { IfErr result (λ e. (asked_refusal J.plan self.old view.now
             (datum_of key.now) ≡ Some e) ⊎ IsUnanswered J.plan self.old self.new e) }
     {
@@ -203,25 +237,32 @@ impl<J: Naming> Session<J> {
             return Err(Refused::Stolen);
         }
         let view = read_target(self.plan(), view, key)?;
-        self.read_by_turns(rt, alloc, view, key)
+        self.read_by_turns(rt, alloc, view, key, rows)
     }
 
     // Tries, and asks and waits at each miss.
-    fn read_by_turns<R: Wait>(&mut self, rt: &R, alloc: Global, view: usize, key: &Value) -> Reading
+    fn read_by_turns<R: Wait>(
+        &mut self,
+        rt: &R,
+        alloc: Global,
+        view: usize,
+        key: &Value,
+        rows: &mut AnswerRows,
+    ) -> Result<Lengths, Refused>
         requires view { view < length J.plan.views }
         requires number { self.old.number < last_number }
-        ensures answer { IfOk result (λ a.
-            IsRead J.plan self.old self.new view (datum_of key.now) a.rows a.cut) }
+        ensures answer { IfOk result (λ cut.
+            IsRead J.plan self.old self.new view (datum_of key.now) rows.new cut) }
         ensures refused { IfErr result (λ e. IsUnanswered J.plan self.old self.new e) }
     {
         let mut turns = ReadTurns::new();
         for _turn in rt.forever() {
-            let found = match self.look(alloc, view, key) {
+            let found = match self.look(alloc, view, key, rows) {
                 Ok(found) => found,
                 Err(refused) => return Err(refused),
             };
-            if let Some(answer) = found {
-                return Ok(answer);
+            if let Some(cut) = found {
+                return Ok(cut);
             }
             match self.wait_for(rt, alloc, view, key, &mut turns) {
                 Ok(()) => (),

@@ -1,6 +1,6 @@
 //! What a session looks at of each shard of each view.
 ghost use Rattle.std.specs.Prelude.{◌≡◌, ◌⊎◌, ◌<◌, ◌≤◌, ℕ, length, map, min, slice_get, slice_index_or};
-ghost use Rattle.std.specs.Prelude.{IfOk, IfErr, IfNone, IfSome, IsTrue, Some};
+ghost use Rattle.std.specs.Prelude.{IfOk, IfErr, IsFalse, IsTrue, Some};
 ghost use Rattle.row.specs.{Bags.Each, Cells.datum_of};
 ghost use Rattle.sessions.specs.{Sights.FindsOver, Sights.HasAll, Sights.IsCut, Sights.IsCutAt, Callers.AreLater, Callers.reader_of, Reads.IsHidden};
 ghost use Rattle.model.specs.Histories.{len_at, view_shard};
@@ -12,7 +12,7 @@ use book::cut::{Cut, Cuts};
 use book::front::Front;
 use book::law::Naming;
 use book::part::Part;
-use key_rows::shared::SharedRows;
+use key_rows::answer_rows::AnswerRows;
 use model::lengths::Lengths;
 use packet::reader::Reader;
 use routes::routes::Routes;
@@ -50,8 +50,8 @@ impl<J: Naming> Sights<J> {
         Sights { readers }
     }
 
-    /// Looks a key up in what is shown of its view shard: its rows and, in `cut`, the cut of a hit.
-    /// Errors: `NoMemory`; it may then have seen more.
+    /// Looks a key up in what is shown of its view shard, and says whether it is shown: a hit puts its
+    /// rows into `rows` and its cut into `cut`. Errors: `NoMemory`; it may then have seen more.
     #[inline(always)]
     pub(crate) fn look(
         &mut self,
@@ -59,21 +59,22 @@ impl<J: Naming> Sights<J> {
         place: usize,
         view: usize,
         key: &Value,
+        rows: &mut AnswerRows,
         cut: &mut Option<Cut<J>>,
-    ) -> Result<Option<SharedRows>, Refused>
+    ) -> Result<bool, Refused>
         requires place { slice_get (readers_of J.plan) place ≡ Some (record {
           view = view;
           shard = view_shard J.plan view (datum_of key.now);
         }) }
         ensures later { AreLater self.old self.new }
         ensures shards { map reader_of self.new ≡ readers_of J.plan }
-        ensures hit { IfOk result (λ found. IfSome found (λ rows.
-            FindsOver J.plan self.new view (datum_of key.now) rows cut.new)) }
-        ensures miss { IfOk result (λ found.
-            IfNone found (IsHidden J.plan self.new view (datum_of key.now))) }
+        ensures hit { IfOk result (λ hit. IsTrue hit
+            → FindsOver J.plan self.new view (datum_of key.now) rows.new cut.new) }
+        ensures miss { IfOk result (λ hit. IsFalse hit
+            → IsHidden J.plan self.new view (datum_of key.now)) }
         ensures only { IfErr result (λ e. e ≡ Refused.NoMemory) }
     {
-        self.readers[place].look(alloc, key, cut)
+        self.readers[place].look(alloc, key, rows, cut)
     }
 
     // They are of all shards of all views.

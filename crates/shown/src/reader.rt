@@ -1,5 +1,5 @@
 //! Readers of a shown copy.
-ghost use Rattle.std.specs.Prelude.{◌≡◌, IfOk, IfErr, IfNone, IfSome, None, Some};
+ghost use Rattle.std.specs.Prelude.{◌≡◌, IfOk, IfErr, IfSome, IsFalse, IsTrue as IsYes, None, Some};
 ghost use Rattle.left_right.specs.Sides.{view as sight_of};
 ghost use Rattle.book.specs.Sessions.{fronts};
 ghost use Rattle.row.specs.Cells.{datum_of};
@@ -9,7 +9,7 @@ use crate::rule::{Looks, Published, Sight};
 use crate::shown::Shown;
 use book::cut::Cut;
 use book::law::Naming;
-use key_rows::shared::SharedRows;
+use key_rows::answer_rows::AnswerRows;
 use left_right::reader::Reader;
 use row::refused::Refused;
 use row::value::Value;
@@ -78,31 +78,31 @@ impl<J: Naming> ShownReader<J> {
         ShownReader::over(reader, self.view, self.shard)
     }
 
-    /// Looks a key up in what is shown, which is true and no less than what it has seen: a hit
-    /// gives the rows of the key and, in `cut`, the cut over which they are its answer, both of one
-    /// look; nothing is given where the key was not shown. What stands in `cut` but for a hit is not
-    /// said. It waits for nobody. Errors: `NoMemory`, also where the writer is gone; it may then have
-    /// seen more. Cost: one look-up by hash, a step on the count of the key's rows, and a copy of the
-    /// cut.
+    /// Looks a key up in what is shown, which is true and no less than what it has seen, and says
+    /// whether it is shown: a hit puts the rows of the key into `rows` and, in `cut`, the cut over
+    /// which they are its answer, both of one look. What stands in either but for a hit is not said.
+    /// It waits for nobody. Errors: `NoMemory`, also where the writer is gone; it may then have seen
+    /// more. Cost: one look-up by hash, that of `SharedRows::read_into`, and a copy of the cut.
     #[inline(always)]
     pub fn look(
         &mut self,
         alloc: Global,
         key: &Value,
+        rows: &mut AnswerRows,
         cut: &mut Option<Cut<J>>,
-    ) -> Result<Option<SharedRows>, Refused>
+    ) -> Result<bool, Refused>
         ensures later { IsLater self.old self.new }
         ensures truth { IfOk result (λ _. IsTrue J.plan self.new) }
-        ensures hit { IfOk result (λ found. IfSome found (λ rows.
-            IsHit J.plan self.new (datum_of key.now) rows cut.new)) }
-        ensures miss { IfOk result (λ found.
-            IfNone found (shown_at self.new.rows (datum_of key.now) ≡ None)) }
+        ensures hit { IfOk result (λ hit. IsYes hit
+            → IsHit J.plan self.new (datum_of key.now) rows.new cut.new) }
+        ensures miss { IfOk result (λ hit. IsFalse hit
+            → shown_at self.new.rows (datum_of key.now) ≡ None) }
         ensures only { IfErr result (λ e. e ≡ Refused.NoMemory) }
     {
         let Some(reader) = self.reader.take() else {
             unreachable!();
         };
-        let (reader, found) = look_by(reader, alloc, key, self.view, self.shard, cut);
+        let (reader, found) = look_by(reader, alloc, key, self.view, self.shard, rows, cut);
         self.reader = Some(reader);
         found
     }
@@ -140,7 +140,7 @@ impl<J: Naming> ShownReader<J> {
     }
 }
 
-// The entry of the key in what is shown.
+// Whether the key is shown: its rows in `rows`, and in `cut` the cut.
 #[inline(always)]
 fn look_by<J: Naming>(
     reader: Reader<Shown<J>, Sight, Published>,
@@ -148,24 +148,22 @@ fn look_by<J: Naming>(
     key: &Value,
     view: usize,
     shard: usize,
+    rows: &mut AnswerRows,
     cut: &mut Option<Cut<J>>,
-) -> (
-    Reader<Shown<J>, Sight, Published>,
-    Result<Option<SharedRows>, Refused>,
-)
+) -> (Reader<Shown<J>, Sight, Published>, Result<bool, Refused>)
     requires of { IsOf view shard (sight_of reader.place) }
     ensures looked { HasLooked view shard (sight_of reader.place) (sight_of result.0.place) }
     ensures truth { IfOk result.1 (λ _. IsTrue J.plan (seen_or nothing (sight_of result.0.place))) }
-    ensures hit { IfOk result.1 (λ found. IfSome found (λ rows. IsHit J.plan
-        (seen_or nothing (sight_of result.0.place)) (datum_of key.now) rows cut.new)) }
-    ensures miss { IfOk result.1 (λ found. IfNone found (shown_at
-        (seen_or nothing (sight_of result.0.place)).rows (datum_of key.now) ≡ None)) }
+    ensures hit { IfOk result.1 (λ hit. IsYes hit → IsHit J.plan
+        (seen_or nothing (sight_of result.0.place)) (datum_of key.now) rows.new cut.new) }
+    ensures miss { IfOk result.1 (λ hit. IsFalse hit → shown_at
+        (seen_or nothing (sight_of result.0.place)).rows (datum_of key.now) ≡ None) }
     ensures only { IfErr result.1 (λ e. e ≡ Refused.NoMemory) }
 {
     match reader.enter_as::<Looks>() {
         Err(reader) => (reader, Err(Refused::NoMemory)),
         Ok(reading) => {
-            let found = found(alloc, reading.get(), key, cut);
+            let found = found(alloc, reading.get(), key, rows, cut);
             (reading.leave(), found)
         }
     }
@@ -214,24 +212,25 @@ fn asked_by<J: Naming>(
     }
 }
 
-// The key's rows, and in `cut` a copy of the cut.
+// Whether the key is shown: a copy of its rows in `rows`, and in `cut` one of the cut.
 #[inline(always)]
 fn found<J: Naming>(
     alloc: Global,
     shown: &Shown<J>,
     key: &Value,
+    rows: &mut AnswerRows,
     cut: &mut Option<Cut<J>>,
-) -> Result<Option<SharedRows>, Refused>
-    ensures hit { IfOk result (λ found. IfSome found (λ rows.
-        IsHit J.plan shown.now (datum_of key.now) rows cut.new)) }
-    ensures miss { IfOk result (λ found.
-        IfNone found (shown_at shown.now.rows (datum_of key.now) ≡ None)) }
+) -> Result<bool, Refused>
+    ensures hit { IfOk result (λ hit. IsYes hit
+        → IsHit J.plan shown.now (datum_of key.now) rows.new cut.new) }
+    ensures miss { IfOk result (λ hit. IsFalse hit
+        → shown_at shown.now.rows (datum_of key.now) ≡ None) }
     ensures only { IfErr result (λ e. e ≡ Refused.NoMemory) }
 {
-    let Some(rows) = shown.entry(key) else {
-        return Ok(None);
+    let Some(held) = shown.entry(key) else {
+        return Ok(false);
     };
-    let rows = rows.try_clone(alloc)?;
+    held.read_into(alloc, rows)?;
     *cut = Some(shown.cut().try_clone(alloc)?);
-    Ok(Some(rows))
+    Ok(true)
 }

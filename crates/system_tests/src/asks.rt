@@ -1,11 +1,12 @@
 //! Calls of a running system and its sessions with no clause, so that the proof of a test does not
 //! carry what each says.
 use book::law::Naming;
+use key_rows::answer_rows::AnswerRows;
 use model::entry::Entry;
 use row::refused::Refused;
 use row::row::Row;
 use row::value::Value;
-use sessions::reads::Found;
+use sessions::reads::{Answer, Found};
 use sessions::session::Session;
 use std::alloc::{AllocError, Global};
 use std::sync::Wait;
@@ -125,7 +126,11 @@ impl<J: Naming, R: Wait> Caller<J, R> {
     // Reads the rows of the key, or only where they are shown.
     pub fn look(&mut self, view: &str, key: &Value, waits: bool) -> Result<Found, Refused> {
         if waits {
-            Ok(Found::Hit(self.session.read(&self.rt, self.alloc, view, key)?))
+            let mut rows = AnswerRows::new();
+            let cut = self
+                .session
+                .read_into(&self.rt, self.alloc, view, key, &mut rows)?;
+            Ok(Found::Hit(Answer { rows, cut }))
         } else {
             self.session.try_read(self.alloc, view, key)
         }

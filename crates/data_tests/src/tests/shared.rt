@@ -1,9 +1,11 @@
 //! Rows that copies share are those of a bag, before and after changes.
 use super::words::{records, row, rows, written};
+use key_rows::answer_rows::AnswerRows;
 use key_rows::kept::KeyRows;
-use key_rows::placed::PlacedRow;
+use key_rows::rows::Rows;
 use key_rows::shared::SharedRows;
 use partial::gather::Gather;
+use placed_rows::placed::PlacedRow;
 use row::bag::Bag;
 use row::row::Row;
 use std::alloc::{AllocError, Global};
@@ -14,9 +16,9 @@ fn bag(alloc: Global, text: &str) -> Result<Bag, AllocError> {
 }
 
 /// The rows as rows are written in these tests.
-fn shown(alloc: Global, rows: &SharedRows) -> Result<String, AllocError> {
+fn shown(alloc: Global, rows: Rows<'_>) -> Result<String, AllocError> {
     let mut text = String::new(alloc);
-    for row in rows.iter() {
+    for row in rows {
         if !text.is_empty() {
             text.push(';')?;
         }
@@ -49,7 +51,8 @@ const ROWS: [&str; 18] = [
 
 /// Whether a row is the same in place: its width, each value, and none past its end.
 fn is_same(alloc: Global, row: &Row) -> Result<bool, AllocError> {
-    let placed = PlacedRow::of(alloc, row)?.try_clone(alloc)?;
+    let placed = PlacedRow::of(alloc, row)?.view().to_placed(alloc)?;
+    let placed = placed.view();
     for column in 0..row.width() {
         let (Some(field), Some(cell)) = (placed.get(column), row.get(column)) else {
             return Ok(false);
@@ -95,13 +98,25 @@ fn rows_in_place_stand_as_rows_do(rt: HostRuntime) -> Result<(), Fail> {
 }
 
 /// The rows of a key, records, and the rows after them.
-const CHANGES: [(&str, &str, &str); 12] = [
+const CHANGES: [(&str, &str, &str); 20] = [
     ("", "", ""),
     ("", "+1 a 2", "1 a 2"),
     ("1 a 2", "-1 a 2", ""),
     ("1 a 2", "-1 a 3", "1 a 2"),
     ("1 a 2;2 b 3", "-2 b 3;+2 b 4", "1 a 2;2 b 4"),
     ("1 a 2;2 b 3", "+2 b 4;-2 b 3", "1 a 2;2 b 4"),
+    ("1 a 2", "-1 a 2;+1 a 3", "1 a 3"),
+    ("1 a 2;2 b 3;3 c 4", "-2 b 3;+2 b 2", "1 a 2;2 b 2;3 c 4"),
+    ("1 a;2 b;3 c;4 d", "-4 d;+4 e", "1 a;2 b;3 c;4 e"),
+    ("1 a;2 b;3 c;4 d", "-1 a;+1 e", "1 e;2 b;3 c;4 d"),
+    ("1 a;2 b;3 c;4 d", "-1 a;+5 a", "2 b;3 c;4 d;5 a"),
+    ("1 a;2 b;3 c;4 d", "-4 d;+0 d", "0 d;1 a;2 b;3 c"),
+    ("1 a;1 a;2 b", "-1 a;+1 b", "1 a;1 b;2 b"),
+    (
+        "1 a;2 b;3 c;4 d",
+        "-2 b;+2 3 4 5 b",
+        "1 a;2 3 4 5 b;3 c;4 d",
+    ),
     ("", "-9 z;+9 z", ""),
     ("1 a;1 a;1 a", "-1 a", "1 a;1 a"),
     ("1 a;2 b;3 c", "+0 d", "0 d;1 a;2 b;3 c"),
@@ -110,14 +125,31 @@ const CHANGES: [(&str, &str, &str); 12] = [
     ("-1 a;2 b c", "+-7;-2 b c;+2 b", "-7;-1 a;2 b"),
 ];
 
+/// Whether an answer that takes the rows, in the place of those that it has, has them.
+fn is_answered(
+    alloc: Global,
+    rows: &SharedRows,
+    answer: &mut AnswerRows,
+    text: &str,
+) -> Result<bool, AllocError> {
+    rows.read_into(alloc, answer)?;
+    Ok(
+        shown(alloc, answer.iter())?.as_str() == text
+            && written(alloc, &answer.to_rows(alloc)?)?.as_str() == text
+            && answer.len() == rows.len()
+            && answer.is_empty() == text.is_empty(),
+    )
+}
+
 /// Whether the rows are changed as a bag is, and those that are shared stay.
 fn is_changed(alloc: Global, step: &(&str, &str, &str)) -> Result<bool, AllocError> {
     let (before, change, after) = *step;
     let rows = SharedRows::of(alloc, &bag(alloc, before)?)?;
     let changed = rows.with_records(alloc, &records(alloc, change)?)?;
     Ok(
-        shown(alloc, &rows)?.as_str() == before
-            && shown(alloc, &changed.try_clone(alloc)?)?.as_str() == after
+        shown(alloc, rows.iter())?.as_str() == before
+            && shown(alloc, changed.try_clone(alloc)?.iter())?.as_str() == after
+            && is_answered(alloc, &changed, &mut AnswerRows::new(), after)?
             && written(alloc, &changed.to_rows(alloc)?)?.as_str() == after
             && written(alloc, changed.to_bag(alloc)?.rows())?.as_str() == after
             && changed.is_empty() == after.is_empty(),
@@ -150,9 +182,9 @@ fn is_sum(alloc: Global, step: &(&str, &str, &str)) -> Result<bool, AllocError> 
     let again = KeyRows::gather(alloc, vec![in alloc; sum]?)?.shared(alloc)?;
     let piece = KeyRows::piece(bag(alloc, all)?).shared(alloc)?;
     Ok(
-        shown(alloc, &rows)?.as_str() == all
-            && shown(alloc, &again)?.as_str() == all
-            && shown(alloc, &piece)?.as_str() == all,
+        shown(alloc, rows.iter())?.as_str() == all
+            && shown(alloc, again.iter())?.as_str() == all
+            && shown(alloc, piece.iter())?.as_str() == all,
     )
 }
 
@@ -188,15 +220,18 @@ fn shared_rows_stay_those_of_a_bag(rt: HostRuntime) -> Result<(), Fail> {
     let alloc = rt.alloc();
     let mut bag = Bag::new(alloc);
     let mut rows = SharedRows::of(alloc, &bag)?;
+    let mut answer = AnswerRows::new();
     for number in 0..40 {
         let change = records(alloc, drawn(alloc, number)?.as_str())?;
         bag.apply(alloc, &change)?;
         rows = rows.with_records(alloc, &change)?;
+        let text = written(alloc, bag.rows())?;
+        assert!(rt; written(alloc, &rows.to_rows(alloc)?)? == text, "{number}");
+        assert!(rt; rows.len() == bag.len(), "{number}");
         assert!(rt;
-            written(alloc, &rows.to_rows(alloc)?)? == written(alloc, bag.rows())?,
+            is_answered(alloc, &rows, &mut answer, text.as_str())?,
             "{number}"
         );
-        assert!(rt; rows.len() == bag.len(), "{number}");
     }
     Ok(())
 }
@@ -258,7 +293,8 @@ fn many(alloc: Global, count: u64) -> Result<Vec<String>, AllocError> {
 fn is_bag(alloc: Global, rows: &SharedRows, bag: &Bag) -> Result<bool, AllocError> {
     let text = written(alloc, bag.rows())?;
     Ok(
-        shown(alloc, rows)?.as_str() == text.as_str()
+        shown(alloc, rows.iter())?.as_str() == text.as_str()
+            && is_answered(alloc, rows, &mut AnswerRows::new(), text.as_str())?
             && written(alloc, &rows.to_rows(alloc)?)?.as_str() == text.as_str()
             && rows.len() == bag.len(),
     )
@@ -268,14 +304,18 @@ fn is_bag(alloc: Global, rows: &SharedRows, bag: &Bag) -> Result<bool, AllocErro
 fn is_changed_alike(alloc: Global, count: u64, change: &str) -> Result<bool, AllocError> {
     let mut bag = bag(alloc, run(alloc, "", FIRST, count)?.as_str())?;
     let rows = SharedRows::of(alloc, &bag)?;
-    let before = shown(alloc, &rows)?;
+    let before = shown(alloc, rows.iter())?;
     let change = records(alloc, change)?;
     bag.apply(alloc, &change)?;
     let once = rows.with_records(alloc, &change)?;
     let is_once = is_bag(alloc, &once, &bag)?;
     bag.apply(alloc, &change)?;
     let twice = once.with_records(alloc, &change)?;
-    Ok(is_once && is_bag(alloc, &twice, &bag)? && shown(alloc, &rows)?.as_str() == before.as_str())
+    Ok(
+        is_once
+            && is_bag(alloc, &twice, &bag)?
+            && shown(alloc, rows.iter())?.as_str() == before.as_str(),
+    )
 }
 
 #[test]

@@ -4,10 +4,10 @@ use Rattle.sessions.proofs.Looks.{looked_read, looked_undone}
 use Rattle.sessions.proofs.session.Session.look.Goals as goal
 
 pub answer-requires-clause-found : goal.answer-requires-clause-found
-answer-requires-clause-found g c = found_over g.J.Naming.plan _ c.args.view (datum_of c.args.key.now) _ _ _ (rw c.in-Some.is at c.in-Ok.ensures.hit) c.in-Some-cut.is
+answer-requires-clause-found g c = found_over g.J.Naming.plan _ c.args.view (datum_of c.args.key.now) _ _ _ (c.in-Ok.ensures.hit c.if-not-hit.false) c.in-Some.is
 
 pub returns-in-Ok-answer-clause-hit : goal.returns-in-Ok-answer-clause-hit
-returns-in-Ok-answer-clause-hit g c = rw c.into_lengths-cut.ensures (looked_read g.J.Naming.plan _ _ _ c.find.ensures.looked _ _ _ _ c.in-Ok-answer.ensures.read)
+returns-in-Ok-answer-clause-hit g c = rw c.into_lengths.ensures (looked_read g.J.Naming.plan _ _ _ c.find.ensures.looked _ _ _ _ c.in-Ok-answer.ensures.read)
 
 pub returns-in-Err-answer-clause-refused : goal.returns-in-Err-answer-clause-refused
 returns-in-Err-answer-clause-refused g c = looked_undone g.J.Naming.plan _ _ _ c.find.ensures.looked _ c.in-Err-answer.ensures.refused

@@ -15,7 +15,7 @@ returns-clause-shards g c = (looked_at g.J.Naming.plan c.self.inside.readers.ite
 pub returns-clause-hit : goal.returns-clause-hit
 returns-clause-hit g c =
     let is = (looked_at g.J.Naming.plan c.self.inside.readers.items c.args.place c.args.view (view_shard g.J.Naming.plan c.args.view (datum_of c.args.key.now)) c.index_mut.result.now c.look.new.self c.self.invariant c.requires.place c.index_mut.ensures.value c.look.ensures.later).sight in
-    finds g.J.Naming.plan _ c.args.view c.args.key.now c.look.new.self c.look.result _ is c.look.ensures.truth c.look.ensures.hit
+    finds g.J.Naming.plan _ c.args.view c.args.key.now c.look.new.self c.look.result _ _ is c.look.ensures.truth c.look.ensures.hit
 
 pub returns-clause-miss : goal.returns-clause-miss
 returns-clause-miss g c =

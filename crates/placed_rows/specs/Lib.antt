@@ -1,0 +1,5 @@
+pub mod Values
+pub mod Here
+pub mod Parts
+pub mod Placed
+pub mod Seen
