@@ -1,5 +1,5 @@
 -- Copies of one thing, and lines and cuts of empty logs.
-use Rattle.std.proofs.Common.{◌≡◌, ℕ, zero, suc, ◌+◌, List, [], ◌∷◌, ◌++◌, map, length, replicate, refl, ap, sym, ◌∙◌}
+use Rattle.std.proofs.Common.{◌≡◌, ℕ, zero, suc, ◌+◌, List, [], ◌∷◌, ◌++◌, map, length, replicate, take, slice_get, slice_set, Some, refl, ap, sym, ◌∙◌, arith}
 use Rattle.std.proofs.lemmas.List.{replicate_more}
 use Rattle.row.specs.Bags.{Each}
 use Rattle.plan.specs.Layouts.{Layout}
@@ -20,6 +20,24 @@ map_replicate f (suc n) x = ap (λ ys. f x ∷ ys) (map_replicate f n x)
 -- one copy more
 pub same_more : {X : Type 0} (n : ℕ) (x y : X) (was now : List X) → was ≡ replicate n x → y ≡ x → now ≡ was ++ y ∷ [] → now ≡ replicate (n + 1) x
 same_more n x y was now before is put = put ∙ (ap (λ l. l ++ y ∷ []) before ∙ (ap (λ z. replicate n x ++ z ∷ []) is ∙ replicate_more n x))
+
+copied_next : {X : Type 0} (now other : List X) (i : ℕ) (x : X) → take i now ≡ take i other → length now ≡ length other → slice_get other i ≡ Some x → take (suc i) (slice_set now i x) ≡ take (suc i) other
+copied_next [] [] i x before size at = absurd cc
+copied_next [] (o ∷ other) i x before size at = absurd (omega (arith, size))
+copied_next (n ∷ now) [] i x before size at = absurd (omega (arith, size))
+copied_next (n ∷ now) (o ∷ other) zero x before size at =
+    let first : o ≡ x = cc in
+    ap (λ y. y ∷ []) (sym first)
+copied_next (n ∷ now) (o ∷ other) (suc i) x before size at =
+    let first : n ≡ o = cc in
+    let rest : take i now ≡ take i other = cc in
+    rw (first, copied_next now other i x rest (omega (arith, size)) at) refl
+
+-- one more of another list, in its place
+pub copied_more : {X : Type 0} (now other : List X) (i : ℕ) (x : X) → take i now ≡ take i other → length now ≡ length other → slice_get other i ≡ Some x → take (i + 1) (slice_set now i x) ≡ take (i + 1) other
+copied_more now other i x before size at =
+    let next : i + 1 ≡ suc i = omega arith in
+    rw next (copied_next now other i x before size at)
 
 -- ---- empty logs
 logs_of : (p : Layout) (bs : List ℕ) → Pointwise (IsOf p) bs (map (empty_log p) bs)

@@ -1,5 +1,5 @@
 //! A front of each source.
-ghost use Rattle.std.specs.Prelude.{◌≡◌, ◌<◌, length, map, replicate, IfOk, Some, slice_get, slice_set};
+ghost use Rattle.std.specs.Prelude.{◌≡◌, ◌<◌, length, map, replicate, IfOk, OnOk, Some, slice_get, slice_set};
 ghost use Rattle.packet.specs.Lines.{lengths_of};
 
 use model::fronts::Fronts;
@@ -68,6 +68,20 @@ impl<F: Fronts> Line<F> {
             fronts.push(front.try_clone(alloc)?)?;
         }
         Ok(Line { fronts })
+    }
+
+    /// Makes it a copy of a line of as many sources, in the memory that it has. Errors: memory only;
+    /// then some of its fronts are those of the other. Cost: a copy of each front.
+    pub fn copy_from(&mut self, alloc: Global, other: &Line<F>) -> Result<(), AllocError>
+        requires { length self.old ≡ length other.now }
+        ensures copied { OnOk result (self.new ≡ other.now) }
+        ensures sources { length self.new ≡ length self.old }
+    {
+        for source in 0..other.sources() {
+            let front = other.front(source).try_clone(alloc)?;
+            self.set(source, front);
+        }
+        Ok(())
     }
 
     /// `count` copies of it. Errors: memory only. Cost: a copy of each front for each.

@@ -36,6 +36,7 @@ use Rattle.protocol.specs.ViewSteps.{again, ask, capped, counted, drop_all, give
 use Rattle.packet.specs.Truth.{Pointwise, Grows, Given, IsTrueStage, IsStagePiece, IsStillStage, IsTold, changes_at, key_of_piece, sent_of, view_shares}
 use Rattle.view_domain.specs.Codes.{GoesWith, IsFrom}
 use Rattle.view_domain.specs.Domains.{Domain, HoldsTruth, lines_of, view_of}
+use Rattle.view_domain.proofs.LineSteps.{pointwise_length}
 use Rattle.view_domain.proofs.Holds.{goes_on, same_line}
 use Rattle.view_domain.specs.Outboxes.{OutboxView, ShownView, new_line, put_line, keys_told, line_told, cut_after, asked_after}
 use Rattle.view_domain.specs.Shown.{rows_at, LeadsTo}
@@ -264,6 +265,10 @@ module _ (are_one : LogView → LogView → Type 0) (d : Domain) (s : ℕ) (x : 
 
   pub lines_meet : (to : List LogView) → AreOf x.plan to → x.to ≡ entries_of to → Pointwise are_one held to
   lines_meet to of is_to = one_line are_one d.plan (sources d.plan) held to (each_get (AreOf d.plan) d.cut s held here holds.of) (rw (← f.plan) of) (rw (← is_to) (f.one held here))
+
+  -- it has as many fronts
+  pub even : (to : List LogView) → AreOf x.plan to → x.to ≡ entries_of to → length held ≡ length to
+  even to of is_to = pointwise_length are_one held to (lines_meet to of is_to)
 
   pub next_is : (line : Line) → x.from ≡ line → line ≡ entries_of held → slice_get (lines_of d.cut) s ≡ Some x.from
   next_is line from is = get_map entries_of d.cut s held here ∙ ap Some (sym (from ∙ is))

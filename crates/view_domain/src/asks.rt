@@ -4,15 +4,12 @@ ghost use Rattle.row.specs.{Groups.equal, declared.value.Value.Value as Key, Cel
 ghost use Rattle.partial.specs.{States.state_of, States.is_hole, Sums.sum_of_bags, Truth.IsTrueOf};
 ghost use Rattle.packet.specs.{Codes.mark_in, Codes.marks_in, Keys.is_among, Keys.stands_of, Keys.begin_at, Marks.complete, Marks.partly, Truth.changes_at, Truth.key_of_piece};
 ghost use Rattle.protocol.specs.ViewSteps.{again, capped, counted, drop_all, give_piece, marks_with};
-ghost use Rattle.view_domain.specs.{Shown.LeadsTo, Shown.rows_at, Outboxes.new_line, Taken.IsStepOf, Taken.IsPieceFor, Taken.MayTake, Taken.asks_by};
+ghost use Rattle.view_domain.specs.{Shown.LeadsTo, Shown.rows_at, Taken.IsStepOf, Taken.IsPieceFor, Taken.MayTake, Taken.asks_by};
 
 use crate::shown::KeyChange;
 use crate::takes::take_in;
 use key_rows::kept::KeyRows;
-use model::fronts::Fronts;
-use packet::line::Line;
 use packet::marks::Marks;
-use packet::piece::Piece;
 use packet::request::{Marker, Request};
 use packet::stage_packet::Content;
 use partial::partial::Partial;
@@ -96,22 +93,6 @@ pub(crate) fn begin_key(
     Ok(Some(requests_of(alloc, tag, &key, count)?))
 }
 
-/// A copy of the line that a packet ends at, where it may have moved: a packet with a piece or a
-/// marker moves none.
-fn moved<F: Fronts>(
-    alloc: Global,
-    to: &Line<F>,
-    piece: &Option<Piece>,
-    marker: Option<Marker>,
-) -> Result<Option<Line<F>>, AllocError>
-    ensures { IfOk result (λ o. o ≡ new_line piece.now marker to.now) }
-{
-    match (piece, marker) {
-        (None, None) => Ok(Some(to.try_clone(alloc)?)),
-        _ => Ok(None),
-    }
-}
-
 /// Takes in the marker of a source, if there is one: the one that has come from all now.
 fn come(
     alloc: Global,
@@ -133,27 +114,25 @@ fn come(
     }
 }
 
-/// What a packet makes a view shard put out: what becomes of keys, requests to its sender, a copy
-/// of the line that it ends at where it may have moved, and the fence that it completes.
+/// What a packet makes a view shard put out: what becomes of keys, requests to its sender, and the
+/// fence that it completes.
 #[derive(Drop)]
-pub(crate) struct Made<F: Fronts> {
+pub(crate) struct Made {
     pub(crate) told: Vec<KeyChange>,
     pub(crate) requests: Vec<Request>,
-    pub(crate) line: Option<Line<F>>,
     pub(crate) ack: Option<Marker>,
 }
 
 /// Takes in what a packet of a source carries, and makes all that is put out for it. Errors: memory
 /// only; what is then held is not said.
-pub(crate) fn prepare<F: Fronts>(
+pub(crate) fn prepare(
     alloc: Global,
     kept: &mut Partial<Value, KeyRows>,
     marks: &mut Marks,
     source: usize,
     asks: Asks,
-    to: &Line<F>,
     content: Content,
-) -> Result<Made<F>, AllocError>
+) -> Result<Made, AllocError>
     requires may { MayTake source (map datum_of content.evicts.items) content.changes.items
         kept.old }
     requires sender { source < marks.old.senders }
@@ -173,7 +152,6 @@ pub(crate) fn prepare<F: Fronts>(
     ensures shown { IfOk result (λ m. LeadsTo (rows_at kept.old) m.told.items kept.new) }
     ensures requests { IfOk result (λ m. m.requests.items ≡ asks_by asks.tag.0
         (again source (map datum_of content.evicts.items) (stands_of kept.old))) }
-    ensures line { IfOk result (λ m. m.line ≡ new_line content.piece content.marker to.now) }
     ensures marks { OnOk result (marks.new ≡ record marks.old {
       waiting = partly (marks_with marks.old.senders source (mark_in content.marker)
           marks.old.waiting);
@@ -188,7 +166,6 @@ pub(crate) fn prepare<F: Fronts>(
         piece,
         marker,
     } = content;
-    let line = moved(alloc, to, &piece, marker)?;
     let taken = take_in(alloc, kept, source, asks.cap, changes, evicts, piece)?;
     let requests = requests_for(alloc, asks.tag, taken.asks)?;
     let ack = come(alloc, marks, source, marker)?;
@@ -196,7 +173,6 @@ pub(crate) fn prepare<F: Fronts>(
     Ok(Made {
         told,
         requests,
-        line,
         ack,
     })
 }

@@ -1,9 +1,12 @@
-//! Whether a packet starts at the line that is held.
-ghost use Rattle.std.specs.Prelude.{◌≡◌, ◌≤◌, ◌↔◌, IsTrue, length, take};
+//! The lines that are held: whether a packet starts at one, and that it is held where the packet ends.
+ghost use Rattle.std.specs.Prelude.{◌≡◌, ◌≤◌, ◌↔◌, IfOk, IsTrue, OnOk, length, take};
 ghost use Rattle.packet.specs.{Lines.entries_of, Lines.fronts_to, Truth.Pointwise};
+ghost use Rattle.view_domain.specs.Outboxes.{new_line};
 
 use model::fronts::Fronts;
 use packet::line::Line;
+use packet::stage_packet::Content;
+use std::alloc::{AllocError, Global};
 
 /// Whether a front's first entries, up to this length, are those of the front that is held, which
 /// is of the same log. Constant time.
@@ -28,4 +31,25 @@ pub fn starts_at<F: Fronts>(from: &[u64], to: &Line<F>, held: &Line<F>) -> bool
         }
     }
     true
+}
+
+/// Holds the line at which a packet with this content ends, and gives it on where it may have moved: a
+/// packet with a piece or a marker moves none. Errors: memory only; what is held is then not said.
+/// Cost: a copy of each front where it may have moved.
+pub(crate) fn hold<F: Fronts>(
+    alloc: Global,
+    held: &mut Line<F>,
+    to: Line<F>,
+    content: &Content,
+) -> Result<Option<Line<F>>, AllocError>
+    requires { length held.old ≡ length to }
+    ensures held { OnOk result (held.new ≡ to) }
+    ensures line { IfOk result (λ o. o ≡ new_line content.now.piece content.now.marker to) }
+{
+    if content.piece.is_some() || content.marker.is_some() {
+        *held = to;
+        return Ok(None);
+    }
+    held.copy_from(alloc, &to)?;
+    Ok(Some(to))
 }

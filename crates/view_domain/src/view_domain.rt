@@ -12,7 +12,7 @@ use crate::keys::open_key;
 use crate::message::ToView;
 use crate::outbox::ViewOutbox;
 use crate::shown::ShownChange;
-use crate::turn::starts_at;
+use crate::turn::{hold, starts_at};
 use key_rows::kept::KeyRows;
 use model::fronts::Fronts;
 use packet::line::Line;
@@ -248,22 +248,17 @@ impl<'p, F: Fronts> ViewDomain<'p, F> {
             tag: self.tag,
             cap: self.plan.view(self.reader.view).cap(),
         };
-        let Ok(made) = prepare(
-            alloc,
-            &mut self.kept,
-            &mut self.marks,
-            stage,
-            asks,
-            &to,
-            content,
-        ) else {
+        let Ok(line) = hold(alloc, &mut self.cut[stage], to, &content) else {
+            self.mode = Mode::Broken;
+            return Err(Refused::NoMemory);
+        };
+        let Ok(made) = prepare(alloc, &mut self.kept, &mut self.marks, stage, asks, content) else {
             self.mode = Mode::Broken;
             return Err(Refused::NoMemory);
         };
         let was = self.asked;
         self.asked = count(was, made.requests.len());
-        let shown = ShownChange::of(stage, made.line, made.told, was, self.asked);
-        self.cut[stage] = to;
+        let shown = ShownChange::of(stage, line, made.told, was, self.asked);
         out.put(stage, made.requests, shown, made.ack);
         Ok(())
     }
