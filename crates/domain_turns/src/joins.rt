@@ -1,5 +1,5 @@
 //! Packets of one sender that wait one behind the other.
-ghost use Rattle.std.specs.Prelude.{◌≡◌, IsTrue};
+ghost use Rattle.std.specs.Prelude.{◌≡◌, ◌↔◌, IsTrue};
 ghost use Rattle.packet.specs.Joined.{GoesOnBase, GoesOnStage};
 
 use book::front::Front;
@@ -9,13 +9,13 @@ use packet::base_packet::BasePacket;
 use packet::stage_packet::StagePacket;
 use view_domain::turn::starts_at;
 
-/// Whether the second packet goes on where the first one ends and only says how far the log has come,
-/// and the first one carries changes alone: so the two can be joined. Constant time.
+/// Whether the second packet goes on where the first one ends, and both are updates, which carry neither
+/// a piece nor a marker: so the two can be joined. Constant time.
 pub fn base_goes_on<J: Naming>(packet: &BasePacket<Front<J>>, next: &BasePacket<Front<J>>) -> bool
-    ensures { IsTrue result → GoesOnBase packet.now next.now }
+    ensures { IsTrue result ↔ GoesOnBase packet.now next.now }
 {
     packet.is_update()
-        && next.is_bare()
+        && next.is_update()
         && packet.stage() == next.stage()
         && packet.base() == next.base()
         && starts_at_end(packet, next)
@@ -25,7 +25,7 @@ pub fn base_goes_on<J: Naming>(packet: &BasePacket<Front<J>>, next: &BasePacket<
 fn starts_at_end<J: Naming>(packet: &BasePacket<Front<J>>, next: &BasePacket<Front<J>>) -> bool
     requires { packet.now.base ≡ next.now.base }
     ensures plan { next.now.plan ≡ packet.now.plan }
-    ensures from { IsTrue result → next.now.from ≡ packet.now.to }
+    ensures from { IsTrue result ↔ (next.now.from ≡ packet.now.to) }
 {
     next.is_true();
     let (to, end) = (packet.to(), next.to());
@@ -33,33 +33,31 @@ fn starts_at_end<J: Naming>(packet: &BasePacket<Front<J>>, next: &BasePacket<Fro
     next.from() == to.len()
 }
 
-/// Whether the second packet goes on where the first one ends and only says how far the logs have come,
-/// and the first one carries changes and evictions alone: so the two can be joined. Cost: two lengths
-/// of each front.
+/// Whether the second packet goes on where the first one ends, and they can be one: so the two can be
+/// joined. Cost: two lengths of each front.
 pub fn stage_goes_on<J: Naming>(
     packet: &StagePacket<Front<J>>,
     next: &StagePacket<Front<J>>,
 ) -> bool
-    ensures { IsTrue result → GoesOnStage packet.now next.now }
+    ensures { IsTrue result ↔ GoesOnStage packet.now next.now }
 {
     let (own, other) = (packet.reader(), next.reader());
-    packet.is_update()
-        && next.is_bare()
+    packet.is_one_with(next)
         && packet.stage() == next.stage()
         && own.view == other.view
         && own.shard == other.shard
         && starts_at_line(packet, next)
 }
 
-// Whether the second packet starts at the line at which the first one ends.
+// Whether the second packet starts at the line at which the first one ends, of the same plan.
 fn starts_at_line<J: Naming>(packet: &StagePacket<Front<J>>, next: &StagePacket<Front<J>>) -> bool
-    ensures plan { IsTrue result → next.now.plan ≡ packet.now.plan }
-    ensures from { IsTrue result → next.now.from ≡ packet.now.to }
+    ensures { IsTrue result
+        ↔ ((next.now.plan ≡ packet.now.plan) × (next.now.from ≡ packet.now.to)) }
 {
-    let (to, end) = (packet.to(), next.to());
+    let (from, to, end) = (next.from(), packet.to(), next.to());
     if to.sources() == 0 || end.sources() == 0 {
-        return false;
+        return to.sources() == end.sources();
     }
     let (_front, _other) = (to.front(0), end.front(0));
-    starts_at(next.from(), end, to)
+    starts_at(from, end, to)
 }

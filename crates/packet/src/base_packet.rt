@@ -1,12 +1,14 @@
 //! What a base shard tells a stage shard.
-ghost use Rattle.std.specs.Prelude.{◌≡◌, ◌==◌, ◌≤◌, length, not, None, IsTrue};
+ghost use Rattle.std.specs.Prelude.{◌≡◌, ◌==◌, ◌≤◌, ◌↔◌, length, not, IsTrue, OnErr, OnOk};
 ghost use Rattle.std.specs.Option.{option_map};
-ghost use Rattle.packet.specs.{Codes.mark_in, Codes.packet_of, Codes.EndsAt, Joined.GoesOnBase, Joined.IsBareBase, Truth.IsTrueBase};
+ghost use Rattle.packet.specs.{Codes.mark_in, Codes.packet_of, Codes.EndsAt, Joined.GoesOnBase, Joined.IsUpdateBase, Joined.joined_base, Truth.IsTrueBase};
 
+use crate::append::append;
 use crate::piece::Piece;
 use crate::request::Marker;
 use model::fronts::Fronts;
 use row::record::Record;
+use std::alloc::AllocError;
 use std::marker::Model;
 
 /// What the base shard of its front tells a stage shard: the rows that come and go between the
@@ -105,17 +107,9 @@ impl<F: Fronts> BasePacket<F> {
 
     /// Whether it is an update: it carries neither a piece nor a marker. Constant time.
     pub fn is_update(&self) -> bool
-        ensures { IsTrue result → (self.now.piece ≡ None) × (self.now.marker ≡ None) }
+        ensures { IsTrue result ↔ IsUpdateBase self.now }
     {
         self.piece.is_none() && self.marker.is_none()
-    }
-
-    /// Whether it only says how far its log has come: it carries no row, no piece and no marker.
-    /// Constant time.
-    pub fn is_bare(&self) -> bool
-        ensures { IsTrue result → IsBareBase self.now }
-    {
-        self.is_update() && !self.has_changes()
     }
 
     /// How many entries the front has that it starts at.
@@ -146,14 +140,18 @@ impl<F: Fronts> BasePacket<F> {
         self.marker
     }
 
-    /// Joins to it the packet that goes on where it ends and only says how far the log has come: it
-    /// ends where that one ends. Takes no memory. Constant time.
-    pub fn join(&mut self, next: BasePacket<F>)
+    /// Joins to it the packet that goes on where it ends: it ends where that one ends, and carries the
+    /// changes of both. Errors: memory only; then it is as it was, and the other is gone. Cost: a move
+    /// of each record of the other, none where it has no changes of its own.
+    pub fn join(&mut self, next: BasePacket<F>) -> Result<(), AllocError>
         requires { GoesOnBase self.old next }
-        ensures { self.new ≡ record self.old { to = next.to } }
+        ensures ok { OnOk result (self.new ≡ joined_base self.old next) }
+        ensures err { OnErr result (self.new ≡ self.old) }
     {
-        let (to, _, _) = next.into_parts();
+        let (to, changes, _) = next.into_parts();
+        append(&mut self.changes, changes)?;
         self.to = to;
+        Ok(())
     }
 
     /// The front that it ends at, its changes and its piece, moved out of it.

@@ -3,6 +3,7 @@
 #![tactic(auto)]
 
 pub mod answer;
+pub(crate) mod append;
 pub mod base_packet;
 pub mod edges;
 pub mod groups;

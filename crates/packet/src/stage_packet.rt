@@ -1,7 +1,8 @@
 //! What a stage shard tells a view shard.
-ghost use Rattle.std.specs.Prelude.{◌≡◌, ◌==◌, ◌≤◌, length, not, None, IfOk, IsTrue};
-ghost use Rattle.packet.specs.{Codes.stage_packet_of, Joined.GoesOnStage, Joined.IsBareStage, Joined.at_most, Lines.AreOf, Lines.entries_of, Lines.fronts_to, Lines.lengths_of, Lines.plan_of, Truth.IsTrueStage};
+ghost use Rattle.std.specs.Prelude.{◌≡◌, ◌==◌, ◌≤◌, ◌↔◌, length, not, IfOk, IsTrue, OnErr, OnOk};
+ghost use Rattle.packet.specs.{Codes.stage_packet_of, Joined.AreOne, Joined.GoesOnStage, Joined.at_most, Joined.joined_stage, Lines.AreOf, Lines.entries_of, Lines.fronts_to, Lines.lengths_of, Lines.plan_of, Truth.IsTrueStage};
 
+use crate::append::append;
 use crate::keyed::Keyed;
 use crate::line::Line;
 use crate::piece::Piece;
@@ -152,19 +153,19 @@ impl<F: Fronts> StagePacket<F> {
         !self.parts.content.changes.is_empty()
     }
 
-    /// Whether it is an update: it carries neither a piece nor a marker. Constant time.
-    pub fn is_update(&self) -> bool
-        ensures { IsTrue result → (self.now.piece ≡ None) × (self.now.marker ≡ None) }
+    /// Whether a packet that goes on where it ends can be one with it: both are updates, which carry
+    /// neither a piece nor a marker, the other evicts nothing, and carries no rows where this one
+    /// evicts. Constant time.
+    pub fn is_one_with(&self, next: &StagePacket<F>) -> bool
+        ensures { IsTrue result ↔ AreOne self.now next.now }
     {
-        self.parts.content.piece.is_none() && self.parts.content.marker.is_none()
-    }
-
-    /// Whether it only says how far its logs have come: it carries no row, no eviction, no piece
-    /// and no marker. Constant time.
-    pub fn is_bare(&self) -> bool
-        ensures { IsTrue result → IsBareStage self.now }
-    {
-        self.is_update() && !self.has_changes() && self.parts.content.evicts.is_empty()
+        let (own, other) = (&self.parts.content, &next.parts.content);
+        own.piece.is_none()
+            && own.marker.is_none()
+            && other.piece.is_none()
+            && other.marker.is_none()
+            && other.evicts.is_empty()
+            && (own.evicts.is_empty() || other.changes.is_empty())
     }
 
     /// The shard of a view that it goes to.
@@ -193,14 +194,19 @@ impl<F: Fronts> StagePacket<F> {
         &self.parts.to
     }
 
-    /// Joins to it the packet that goes on where it ends and only says how far the logs have come:
-    /// it ends where that one ends. Takes no memory. Cost: a step for each source.
-    pub fn join(&mut self, next: StagePacket<F>)
+    /// Joins to it the packet that goes on where it ends and can be one with it: it ends where that one
+    /// ends, and carries the changes of both. Errors: memory only; then it is as it was, and the other
+    /// is gone. Cost: a step for each source, and a move of each record of the other, none where it has
+    /// no changes of its own.
+    pub fn join(&mut self, next: StagePacket<F>) -> Result<(), AllocError>
         requires { GoesOnStage self.old next }
-        ensures { self.new ≡ record self.old { to = next.to } }
+        ensures ok { OnOk result (self.new ≡ joined_stage self.old next) }
+        ensures err { OnErr result (self.new ≡ self.old) }
     {
-        let (_, to, _) = next.into_parts();
+        let (_, to, content) = next.into_parts();
+        append(&mut self.parts.content.changes, content.changes)?;
         self.parts.end_at(to);
+        Ok(())
     }
 
     /// Its parts, moved out of it.

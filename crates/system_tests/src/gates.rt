@@ -57,25 +57,25 @@ const LINES: &[Line] = &[
 
 /// How many threads have come so far, and whether one waited in vain.
 #[derive(Drop)]
-struct Arrivals {
+pub struct Arrivals {
     count: AtomicUsize,
     missed: AtomicBool,
 }
 
 impl Arrivals {
-    fn new() -> Arrivals {
+    pub fn new() -> Arrivals {
         Arrivals {
             count: AtomicUsize::new(0),
             missed: AtomicBool::new(false),
         }
     }
 
-    fn arrive(&self) {
+    pub fn arrive(&self) {
         self.count.fetch_add(1, Ordering::SeqCst);
     }
 
     // Waits until this many have come, and yields the thread at most this often.
-    fn wait_for(&self, count: usize, turns: u32) {
+    pub fn wait_for(&self, count: usize, turns: u32) {
         for _turn in 0..turns {
             if self.count.load(Ordering::SeqCst) >= count {
                 return;
@@ -86,7 +86,7 @@ impl Arrivals {
     }
 
     // Whether this many have come, and none waited in vain.
-    fn are(&self, count: usize) -> bool {
+    pub fn are(&self, count: usize) -> bool {
         self.count.load(Ordering::SeqCst) == count && !self.missed.load(Ordering::SeqCst)
     }
 }

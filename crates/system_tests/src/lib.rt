@@ -10,6 +10,8 @@ mod crews;
 #[cfg(test)]
 mod gates;
 #[cfg(test)]
+mod joins;
+#[cfg(test)]
 mod runs;
 #[cfg(test)]
 mod steps;

@@ -5,6 +5,7 @@ ghost use Rattle.model.specs.Legal.{most_sessions};
 use crate::asks::{Running, fail};
 use crate::callers;
 use crate::gates::{Line, insert_lines};
+use crate::steps::{Step, make_steps};
 use book::book::Opened;
 use book::law::Naming;
 use plan::plan::Plan;
@@ -25,6 +26,7 @@ pub enum Scene {
     Meeting,
     Stopped,
     Lines(&'static [Line]),
+    Steps(&'static [Step]),
 }
 
 /// How a system is started, and what is done with it.
@@ -102,6 +104,7 @@ fn play<J: Naming + Send + Sync + 'static, R: Threads + Wait + Copy + Drop + Sen
         Scene::KeptBeside => callers::calls_of_kept_beside(&mut running),
         Scene::Meeting => callers::calls_of_two(&mut running),
         Scene::Lines(lines) => insert_lines(&mut running, lines),
+        Scene::Steps(steps) => make_steps(&mut running, steps),
         Scene::Stopped => return callers::calls_of_stopped(running),
     };
     running.stop();

@@ -1,11 +1,12 @@
 //! Calls of one session after the other, each with its answer.
-use crate::asks::{Caller, fail, wrong};
+use crate::asks::{Caller, Running, fail, wrong};
 use book::law::Naming;
 use row::refused::Refused;
 use row::value::Value;
 use sessions::reads::Found;
 use std::sync::Wait;
 use std::test::Fail;
+use std::thread::Threads;
 
 /// A call of a session. The note of an even number is author 7's, that of an odd one author 8's.
 #[derive(Clone, Copy)]
@@ -61,6 +62,14 @@ impl<J: Naming, R: Wait> Caller<J, R> {
             Found::Miss => Ok(Told::Miss),
         }
     }
+}
+
+// Makes the calls in a session.
+pub fn make_steps<
+    J: Naming + Send + Sync + 'static,
+    R: Threads + Wait + Copy + Drop + Send + 'static,
+>(running: &mut Running<J, R>, steps: &[Step]) -> Result<(), Fail> {
+    running.next()?.make_all(steps)
 }
 
 // A refusal that is not wanted goes out as a failure.

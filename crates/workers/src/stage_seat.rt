@@ -1,9 +1,9 @@
 //! The turns of a stage shard in its thread.
-ghost use Rattle.std.specs.Prelude.{◌≡◌, ◌<◌, [], length, slice_set, IfNone, IfSome};
+ghost use Rattle.std.specs.Prelude.{◌≡◌, ◌≢◌, ◌<◌, [], length, slice_set, IfNone, IfOk, IfSome};
 ghost use Rattle.packet.specs.{Joined.GoesOnBase, Messages.none_of, Outboxes.packets_on, declared.mode.Mode.TheVariants.Running};
 ghost use Rattle.stage_steps.specs.{Codes.message_of, Outboxes.AreEdges, Outboxes.IsSilent};
 ghost use Rattle.domain_turns.specs.StageTurns.{Went};
-ghost use Rattle.workers.specs.Joined.{IsJoinedStage};
+ghost use Rattle.workers.specs.Joined.{IsJoinedStage, TakesBase};
 
 use crate::duty::StageDuty;
 use crate::gate::Gate;
@@ -26,7 +26,7 @@ use schedule::wire::Spot;
 use stage_domain::stage_domain::StageDomain;
 use stage_steps::message::ToStage;
 use stage_steps::outbox::StageOutbox;
-use std::alloc::Global;
+use std::alloc::{AllocError, Global};
 use std::marker::Model;
 use std::sync::Wait;
 
@@ -86,8 +86,8 @@ impl<'r, J: Naming, R: Wait> StageSeat<'r, J, R> {
     }
 
     /// Takes what waits in its inbox, and then one message after the other, at most `BATCH`, and
-    /// sends what it makes of each; with a packet those behind it that only say how far its log has
-    /// come, as one. It waits for none. What comes when it has stopped is lost.
+    /// sends what it makes of each; with a packet those behind it that go on from it, as one. It waits
+    /// for none. What comes when it has stopped is lost.
     pub(crate) fn serve<G: Gate>(&mut self, gate: &G) -> Taking {
         let taking = self.turns.take(self.worker.rt, self.inbox);
         for _ in 0..BATCH {
@@ -106,55 +106,58 @@ impl<'r, J: Naming, R: Wait> StageSeat<'r, J, R> {
         };
         let id = DomainId::Stage(self.worker.place);
         gate.before(id, number);
-        let message = joined(message, &mut self.turns);
-        take(&self.worker, &mut self.domain, message, &mut self.out);
+        match joined(message, &mut self.turns) {
+            Ok(message) => take(&self.worker, &mut self.domain, message, &mut self.out),
+            Err(_) => stop(&self.worker, &mut self.domain),
+        }
         gate.after(id, number);
         true
     }
 }
 
-// The message; a packet with those behind it on its edge that only say how far its log has come.
+// The message; a packet with those behind it on its edge that go on from it. Errors: memory only; then
+// some are gone.
 fn joined<J: Naming>(
     message: ToStage<Front<J>>,
     turns: &mut Turns<ToStage<Front<J>>>,
-) -> ToStage<Front<J>>
-    ensures joined { IsJoinedStage message result }
+) -> Result<ToStage<Front<J>>, AllocError>
+    ensures joined { IfOk result (λ m. IsJoinedStage message m) }
     ensures edges { length turns.new.waiting ≡ length turns.old.waiting }
 {
-    match message {
+    Ok(match message {
         ToStage::Packet { source, packet } => ToStage::Packet {
             source,
-            packet: join_behind(packet, turns),
+            packet: join_behind(packet, turns)?,
         },
         ToStage::Request(request) => ToStage::Request(request),
         ToStage::Order(key) => ToStage::Order(key),
-    }
+    })
 }
 
-// The packet, with those behind it that go on from it and only say how far its log has come.
+// The packet, with those behind it that go on from it. Errors: memory only; then some are gone.
 fn join_behind<J: Naming>(
     mut packet: BasePacket<Front<J>>,
     turns: &mut Turns<ToStage<Front<J>>>,
-) -> BasePacket<Front<J>>
-    ensures same { result ≡ record packet { to = result.to } }
+) -> Result<BasePacket<Front<J>>, AllocError>
+    ensures same { IfOk result (λ k. k ≡ record packet { to = k.to; changes = k.changes }) }
     ensures edges { length turns.new.waiting ≡ length turns.old.waiting }
 {
     for _ in 0..BATCH {
         let Some(next) = take_next(&packet, turns) else {
             break;
         };
-        packet.join(next);
+        packet.join(next)?;
     }
-    packet
+    Ok(packet)
 }
 
-// The packet behind this one, where it goes on from it and only says how far the log has come, taken
-// off its edge.
+// The packet behind this one, where it goes on from it, taken off its edge.
 fn take_next<J: Naming>(
     packet: &BasePacket<Front<J>>,
     turns: &mut Turns<ToStage<Front<J>>>,
 ) -> Option<BasePacket<Front<J>>>
     ensures goes_on { IfSome result (λ next. GoesOnBase packet.now next) }
+    ensures taken { IfSome result (λ next. TakesBase turns.old next turns.new) }
     ensures none { IfNone result (turns.new ≡ turns.old) }
     ensures edges { length turns.new.waiting ≡ length turns.old.waiting }
 {
@@ -166,6 +169,14 @@ fn take_next<J: Naming>(
         Some(ToStage::Packet { packet: next, .. }) => Some(next),
         _ => unreachable!(),
     }
+}
+
+// Stops the domain, and says so.
+fn stop<J: Naming, R: Wait>(worker: &Worker<J, R>, domain: &mut StageDomain<Front<J>>)
+    ensures { domain.new.mode ≢ Running }
+{
+    domain.stop();
+    worker.routes.stop(worker.rt, Spot::Stage(worker.place));
 }
 
 // Takes one message, where the domain runs, and sends what it puts out. Where a packet or a request
@@ -193,8 +204,7 @@ fn take<J: Naming, R: Wait>(
     let taken = take_stage(worker.alloc, plan, sources, domain, message, out);
     let sent = send(worker, out);
     if taken.is_err() || sent.is_err() {
-        domain.stop();
-        routes.stop(worker.rt, Spot::Stage(worker.place));
+        stop(worker, domain);
     }
 }
 

@@ -1,11 +1,11 @@
 //! The turns of a view shard in its thread.
-ghost use Rattle.std.specs.Prelude.{◌≡◌, ◌<◌, [], length, slice_get, IfNone, IfOk, IfSome};
+ghost use Rattle.std.specs.Prelude.{◌≡◌, ◌≢◌, ◌<◌, [], length, slice_get, IfNone, IfOk, IfSome};
 ghost use Rattle.packet.specs.{Joined.GoesOnStage, Outboxes.packets_on, Messages.none_of, Readers.readers, declared.mode.Mode.TheVariants.Running};
 ghost use Rattle.domain_turns.specs.ViewTurns.{Shows, Went};
 ghost use Rattle.schedule.specs.Codes.{reader_in};
 ghost use Rattle.shown.specs.{Boards.pending, Boards.shown, Snapshots.Snapshot, Snapshots.first_of};
 ghost use Rattle.view_domain.specs.Outboxes.{IsClear};
-ghost use Rattle.workers.specs.Joined.{IsJoinedView};
+ghost use Rattle.workers.specs.Joined.{IsJoinedView, TakesStage};
 
 use crate::gate::Gate;
 use crate::worker::{Worker, send_each};
@@ -28,7 +28,7 @@ use row::refused::Refused;
 use schedule::wire::Spot;
 use shown::writer::ShownWriter;
 use stage_steps::message::ToStage;
-use std::alloc::Global;
+use std::alloc::{AllocError, Global};
 use std::marker::Model;
 use std::sync::Wait;
 use view_domain::message::ToView;
@@ -98,8 +98,8 @@ impl<'r, J: Naming, R: Wait> ViewSeat<'r, J, R> {
 
 impl<'r, J: Naming, R: Wait + Drop> ViewSeat<'r, J, R> {
     /// Takes what waits in its inbox, and then one message after the other, at most `BATCH`, shows
-    /// what it makes of each, and sends what it makes; with a packet those behind it that only say how
-    /// far its logs have come, as one. It waits for none. What comes when it has stopped is lost.
+    /// what it makes of each, and sends what it makes; with a packet those behind it that go on from it,
+    /// as one. It waits for none. What comes when it has stopped is lost.
     pub(crate) fn serve<G: Gate>(&mut self, writer: &mut ShownWriter<J, R>, gate: &G) -> Taking
         requires shows { self.old.mode ≡ Running → Shows self.old (shown writer.old) }
         requires idle { self.old.mode ≡ Running → pending writer.old ≡ [] }
@@ -128,7 +128,11 @@ impl<'r, J: Naming, R: Wait + Drop> ViewSeat<'r, J, R> {
         };
         let id = DomainId::View(self.domain.view(), self.domain.shard());
         gate.before(id, number);
-        let mail = joined(mail, &mut self.turns);
+        let Ok(mail) = joined(mail, &mut self.turns) else {
+            stop(&self.worker, &mut self.domain);
+            gate.after(id, number);
+            return true;
+        };
         let message = message_of(mail, &mut self.waits);
         take(
             &self.worker,
@@ -146,45 +150,49 @@ impl<'r, J: Naming, R: Wait + Drop> ViewSeat<'r, J, R> {
     }
 }
 
-// The message; a packet with those behind it on its edge that only say how far its logs have come.
-fn joined<J: Naming>(mail: ViewMail<J>, turns: &mut Turns<ViewMail<J>>) -> ViewMail<J>
-    ensures joined { IsJoinedView mail result }
+// The message; a packet with those behind it on its edge that go on from it. Errors: memory only; then
+// some are gone.
+fn joined<J: Naming>(
+    mail: ViewMail<J>,
+    turns: &mut Turns<ViewMail<J>>,
+) -> Result<ViewMail<J>, AllocError>
+    ensures joined { IfOk result (λ m. IsJoinedView mail m) }
     ensures edges { length turns.new.waiting ≡ length turns.old.waiting }
 {
-    match mail {
+    Ok(match mail {
         ViewMail::Packet { stage, packet } => ViewMail::Packet {
             stage,
-            packet: join_behind(packet, turns),
+            packet: join_behind(packet, turns)?,
         },
         ViewMail::Want(want) => ViewMail::Want(want),
         ViewMail::Order { key } => ViewMail::Order { key },
-    }
+    })
 }
 
-// The packet, with those behind it that go on from it and only say how far its logs have come.
+// The packet, with those behind it that go on from it. Errors: memory only; then some are gone.
 fn join_behind<J: Naming>(
     mut packet: StagePacket<Front<J>>,
     turns: &mut Turns<ViewMail<J>>,
-) -> StagePacket<Front<J>>
-    ensures same { result ≡ record packet { to = result.to } }
+) -> Result<StagePacket<Front<J>>, AllocError>
+    ensures same { IfOk result (λ k. k ≡ record packet { to = k.to; changes = k.changes }) }
     ensures edges { length turns.new.waiting ≡ length turns.old.waiting }
 {
     for _ in 0..BATCH {
         let Some(next) = take_next(&packet, turns) else {
             break;
         };
-        packet.join(next);
+        packet.join(next)?;
     }
-    packet
+    Ok(packet)
 }
 
-// The packet behind this one, where it goes on from it and only says how far the logs have come, taken
-// off its edge.
+// The packet behind this one, where it goes on from it, taken off its edge.
 fn take_next<J: Naming>(
     packet: &StagePacket<Front<J>>,
     turns: &mut Turns<ViewMail<J>>,
 ) -> Option<StagePacket<Front<J>>>
     ensures goes_on { IfSome result (λ next. GoesOnStage packet.now next) }
+    ensures taken { IfSome result (λ next. TakesStage turns.old next turns.new) }
     ensures none { IfNone result (turns.new ≡ turns.old) }
     ensures edges { length turns.new.waiting ≡ length turns.old.waiting }
 {
@@ -224,6 +232,14 @@ fn message_of<J: Naming>(mail: ViewMail<J>, waits: &mut Waits) -> ToView<Front<J
     }
 }
 
+// Stops the domain, and says so.
+fn stop<J: Naming, R: Wait>(worker: &Worker<J, R>, domain: &mut ViewDomain<Front<J>>)
+    ensures { domain.new.mode ≢ Running }
+{
+    domain.stop();
+    worker.routes.stop(worker.rt, Spot::View(worker.place));
+}
+
 // Takes one message, where the domain runs: its change is shown, its requests are sent, and then
 // the fence is acknowledged whose marker has come. Where the message or a request is refused the
 // domain stops.
@@ -249,15 +265,14 @@ fn take<J: Naming, R: Wait + Drop>(
     if domain.mode() != Mode::Running {
         return;
     }
-    let (rt, routes, reader) = (worker.rt, worker.routes, worker.place);
+    let routes = worker.routes;
     let plan = routes.plan();
     let taken = take_from_inbox(worker.alloc, plan, domain, writer, message, out);
     if taken.is_err() || send(worker, plan.stages(), out).is_err() {
-        domain.stop();
-        return routes.stop(rt, Spot::View(reader));
+        return stop(worker, domain);
     }
     if let Some(marker) = out.take_ack() {
-        routes.acknowledge(rt, reader, marker);
+        routes.acknowledge(worker.rt, worker.place, marker);
     }
 }
 
