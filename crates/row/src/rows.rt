@@ -63,9 +63,8 @@ impl Rows {
                 Ok(())
             }
             Rows::Many(rows) => {
-                let len = rows.len();
-                if len == rows.capacity() {
-                    rows.reserve_exact(len / 16 + 1)?;
+                if rows.len() == rows.capacity() {
+                    grow(alloc, rows)?;
                 }
                 rows.insert(at, row)?;
                 Ok(())
@@ -103,4 +102,25 @@ impl Rows {
             }
         }
     }
+}
+
+/// Up to how many rows a list is moved to a new one as it grows.
+const SHORT: usize = 60;
+
+/// Room for a sixteenth more rows than there are, and one besides. The rows of a short list are moved
+/// to a new one: the memory that a thread gave back it takes again with no lock, where the library's
+/// allocator locks a heap that threads share to make a piece of memory longer. Errors: memory only.
+/// Either way the rows stay. Cost: a move of the rows.
+fn grow(alloc: Global, rows: &mut Vec<Row>) -> Result<(), AllocError>
+    ensures { rows.new.items ≡ rows.old.items }
+{
+    let len = rows.len();
+    let more = len / 16 + 1;
+    if len > SHORT {
+        return rows.reserve_exact(more);
+    }
+    let mut longer = Vec::with_capacity(alloc, len + more)?;
+    longer.append(rows)?;
+    *rows = longer;
+    Ok(())
 }
