@@ -190,7 +190,22 @@ const PIECES: (usize, &[Step]) = (
     ],
 );
 
-/// The longer of what is there and a piece takes the rows of the other.
+/// One of a few rows and one of nine are put together row by row, others front by front.
+const FAR: (usize, &[Step]) = (
+    3,
+    &[
+        (Call::Begin("7"), "begins", ""),
+        (Call::Piece("7", 0, "5"), "", ""),
+        (Call::Piece("7", 1, "1;2;3;4;5;6;7;8;9"), "", ""),
+        (
+            Call::Piece("7", 2, "0;5;\"x\""),
+            "fills",
+            "7: 0 1 2 3 4 5 5 5 6 7 8 9 \"x\";",
+        ),
+    ],
+);
+
+/// What is there and a piece are put together, whichever has more rows.
 const LENGTHS: (usize, &[Step]) = (
     3,
     &[
@@ -242,7 +257,7 @@ fn is_right(alloc: Global, bags: &mut Bags, step: &Step) -> Result<bool, AllocEr
 
 #[test]
 fn keys_are_gathered(rt: HostRuntime) -> Result<(), Fail> {
-    for (at, (sources, steps)) in [HOLES, SUM, CHANGES, PIECES, LENGTHS, KEYS]
+    for (at, (sources, steps)) in [HOLES, SUM, CHANGES, PIECES, FAR, LENGTHS, KEYS]
         .iter()
         .enumerate()
     {
