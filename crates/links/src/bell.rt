@@ -2,7 +2,7 @@
 ghost use Rattle.std.specs.Prelude.{◌≡◌, not, ◌&&◌, true, false};
 ghost use Rattle.links.specs.Rings.{BellView, later, rang_for};
 
-use crate::look::{FOR_KEY, look};
+use crate::look::{FOR_KEY, Patience};
 use std::marker::Model;
 use std::sync::atomic::{AtomicBool, Ordering};
 use std::sync::{Condvar, Mutex, Wait};
@@ -78,6 +78,7 @@ impl Heard {
 pub struct Bell {
     heard: Mutex<Heard>,
     ready: AtomicBool,
+    patience: Patience,
     moved: Condvar,
 }
 
@@ -90,6 +91,7 @@ impl Bell {
                 alarmed: false,
             }),
             ready: AtomicBool::new(false),
+            patience: Patience::new(),
             moved: Condvar::new(),
         }
     }
@@ -114,7 +116,7 @@ impl Bell {
     /// an earlier call counts for none. It looks some times before it sleeps. A session numbers
     /// its calls upwards.
     pub fn wait<R: Wait>(&self, rt: &R, call: u64) -> Woken {
-        look(&self.ready, FOR_KEY);
+        self.patience.look(&self.ready, FOR_KEY);
         let mut heard = self
             .moved
             .wait_while(rt, self.heard.lock(rt), |heard| heard.is_quiet(call));

@@ -1,5 +1,5 @@
 //! The place where a session finds the reply to its call.
-use crate::look::{FOR_REPLY, look};
+use crate::look::{FOR_REPLY, Patience};
 use crate::stops::Stops;
 use std::sync::atomic::{AtomicBool, Ordering};
 use std::sync::{Condvar, Mutex, Wait};
@@ -12,6 +12,7 @@ use std::sync::{Condvar, Mutex, Wait};
 pub struct Mailbox<T: Drop> {
     reply: Mutex<Option<T>>,
     ready: AtomicBool,
+    patience: Patience,
     moved: Condvar,
 }
 
@@ -21,6 +22,7 @@ impl<T: Drop> Mailbox<T> {
         Mailbox {
             reply: Mutex::new(None),
             ready: AtomicBool::new(false),
+            patience: Patience::new(),
             moved: Condvar::new(),
         }
     }
@@ -44,7 +46,7 @@ impl<T: Drop> Mailbox<T> {
     /// Waits for a reply and takes it. `None` where there is none and the domain that is to send it
     /// has stopped: what it sent before is taken first. Cost: one lock, beside the wait.
     pub fn wait<R: Wait>(&self, rt: &R, stops: &Stops, sender: usize) -> Option<T> {
-        look(&self.ready, FOR_REPLY);
+        self.patience.look(&self.ready, FOR_REPLY);
         let mut reply = self.moved.wait_while(rt, self.reply.lock(rt), |reply| {
             reply.is_none() && !stops.has(sender)
         });
@@ -54,7 +56,7 @@ impl<T: Drop> Mailbox<T> {
 
     /// Waits for a reply and takes it, whatever has stopped. Cost: one lock, beside the wait.
     pub fn receive<R: Wait>(&self, rt: &R) -> Option<T> {
-        look(&self.ready, FOR_REPLY);
+        self.patience.look(&self.ready, FOR_REPLY);
         let mut reply = self
             .moved
             .wait_while(rt, self.reply.lock(rt), |reply| reply.is_none());

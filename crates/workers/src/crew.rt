@@ -13,7 +13,7 @@ use book::law::Naming;
 use book::part::Part;
 use crossbeam_utils::sync::EventCount;
 use links::inbox::Taking;
-use links::look::wait_until;
+use links::look::Patience;
 use routes::routes::Routes;
 use row::refused::Refused;
 use schedule::wire::Spot;
@@ -119,10 +119,11 @@ fn serve<'r, J: Naming, R: Wait, G: Gate>(
     seats: &mut Vec<Seat<'r, J, R>>,
     gate: &G,
 ) {
+    let patience = Patience::new();
     for _ in rt.forever() {
         match serve_each(seats, gate) {
             Taking::Taken => (),
-            Taking::Empty => wait_until(rt, watch, || is_any_ready(seats)),
+            Taking::Empty => patience.wait_until(rt, watch, || is_any_ready(seats)),
             Taking::Closed => break,
         }
     }
@@ -140,11 +141,14 @@ fn serve_with_view<'r, J: Naming, R: Wait + Drop, G: Gate>(
     requires shows { seat.old.mode ≡ Running → Shows seat.old (shown writer.old) }
     requires idle { seat.old.mode ≡ Running → pending writer.old ≡ [] }
 {
+    let patience = Patience::new();
     for _ in rt.forever() {
         let others = serve_each(seats, gate);
         match of_both(others, seat.serve(writer, gate)) {
             Taking::Taken => (),
-            Taking::Empty => wait_until(rt, watch, || seat.is_ready() || is_any_ready(seats)),
+            Taking::Empty => {
+                patience.wait_until(rt, watch, || seat.is_ready() || is_any_ready(seats));
+            }
             Taking::Closed => break,
         }
     }
