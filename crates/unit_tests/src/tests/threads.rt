@@ -5,7 +5,7 @@ use super::inboxes::{put, watched_pair};
 use super::sessions::lets_others_go_on;
 use crossbeam_utils::sync::EventCount;
 use links::inbox::{Inbox, Taking};
-use links::look::wait_until;
+use links::look::Patience;
 use links::queues::Queues;
 use row::refused::Refused;
 use std::alloc::{AllocError, Global};
@@ -54,7 +54,7 @@ fn waits_and_takes<R: Wait>(
     requires { length queues.old ≡ inbox.now }
     ensures { length queues.new ≡ length queues.old }
 {
-    wait_until(rt, watch, || inbox.is_ready());
+    Patience::new().wait_until(rt, watch, || inbox.is_ready());
     inbox.take_all(rt, queues)
 }
 
@@ -149,8 +149,9 @@ fn takes_both<R: Wait>(
 ) -> Result<(u64, u64), AllocError> {
     let (mut one, mut other) = (0, 0);
     let mut is_first_closed = false;
+    let patience = Patience::new();
     for _ in rt.forever() {
-        wait_until(
+        patience.wait_until(
             rt,
             watch,
             || second.is_ready() || !is_first_closed && first.is_ready(),
